@@ -4,8 +4,21 @@
 
 pub mod events;
 pub mod faults;
+pub mod file_sink;
+pub mod host;
 pub mod lists;
+pub mod memory;
+pub mod outside;
+pub mod sound;
+pub mod store;
+pub mod transfer;
 
 pub use events::{Event, Label, Port};
 pub use faults::{IoFault, NoMemory, ReadFault};
+pub use file_sink::FileSink;
+pub use host::{HostFiles, HostOut};
 pub use lists::{Code, LabelList};
+pub use memory::{MemoryFiles, MemorySink};
+pub use outside::{Files, Sink};
+pub use sound::{SoundFiles, SoundSink};
+pub use transfer::{put_all, read_whole, write_file};
