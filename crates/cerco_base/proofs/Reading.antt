@@ -1,9 +1,8 @@
 -- A file that is read piece by piece.
-use Rattle.std.proofs.Common.{◌≡◌, ℕ, ◌+◌, ◌-◌, ◌<◌, ◌≤◌, List, [], ◌∷◌, ◌++◌, length, take, drop, Bool, true, false, Option, Some, None, Result, Ok, Err, IsTrue, refl, sym, ap, subst, ◌∙◌, arith, take_all, take-add}
+use Rattle.std.proofs.Common.{◌≡◌, ℕ, ◌+◌, ◌<◌, ◌≤◌, List, [], ◌++◌, length, take, drop, Option, Some, Ok, Err, IsTrue, refl, sym, ap, subst, ◌∙◌, arith, take_all, take-add}
 use Rattle.std.proofs.lemmas.List.{length-take-le, length-append}
-use Rattle.cerco_base.specs.Causes.{Rose, HasCause}
 use Rattle.cerco_base.specs.States.{FilesState, SameFiles}
-use Rattle.cerco_base.specs.Calls.{ReadsAt, Copies}
+use Rattle.cerco_base.specs.Calls.{ReadsAt}
 use Rattle.cerco_base.specs.WholeFiles.{ReadsWhole}
 use Rattle.cerco_base.proofs.Putting.{rose_since}
 use Rattle.cerco_base.specs.declared.faults.ReadFault.{ReadFault}

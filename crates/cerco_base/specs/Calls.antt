@@ -1,6 +1,6 @@
 -- What each call of `Files` and of `Sink` does, and what a call does that puts a whole text. A call may take fewer bytes than it is
 -- given, as POSIX's read and write may. (This project's own; compare ISO/IEC 9899:1999, 7.19.8.)
-use Rattle.std.specs.Prelude.{◌≡◌, ℕ, [], ◌-◌, ◌<◌, ◌≤◌, List, ◌++◌, length, take, drop, Option, Some, None, Result, IfOk, OnOk, OnErr, IfErr, IsTrue}
+use Rattle.std.specs.Prelude.{◌≡◌, ℕ, [], ◌-◌, ◌<◌, ◌≤◌, List, ◌++◌, length, take, drop, Some, None, Result, IfOk, OnOk, OnErr, IfErr, IsTrue}
 use Rattle.cerco_base.specs.Causes.{HasCause}
 use Rattle.cerco_base.specs.States.{FilesState, SinkState, SameFiles, Puts, bytes_at}
 use Rattle.cerco_base.specs.declared.faults.IoFault.{IoFault}

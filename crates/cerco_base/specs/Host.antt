@@ -1,5 +1,5 @@
 -- The files and the standard output of the process: nothing is known of what they hold; their faults are counted.
-use Rattle.std.specs.Prelude.{ℕ, List, [], false, true, None, string_bytes}
+use Rattle.std.specs.Prelude.{[], false, true, None, string_bytes}
 use Rattle.cerco_base.specs.States.{FilesState, SinkState}
 use Rattle.cerco_base.specs.declared.host.HostFiles.{HostFiles}
 use Rattle.cerco_base.specs.declared.host.HostOut.{HostOut}

@@ -1,6 +1,6 @@
 -- What files and an output are to those who call them: the bytes they hold, where these are known, and their faults so far.
 -- (This project's own model of the streams and files of ISO/IEC 9899:1999, 7.19.2 and 7.19.3.)
-use Rattle.std.specs.Prelude.{◌≡◌, ℕ, Bool, List, [], Option, Some, None, is_some, unwrap_or, bytes_eq, false, ◌&&◌, cond, IsTrue}
+use Rattle.std.specs.Prelude.{◌≡◌, ℕ, Bool, List, [], Option, Some, None, is_some, unwrap_or, bytes_eq, false, ◌&&◌, cond}
 
 -- Files: whether their contents are known, the bytes under each name, how many faults there have been and the name of the last one.
 pub record FilesState : Type 0 where

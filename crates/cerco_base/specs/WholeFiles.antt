@@ -1,5 +1,5 @@
 -- Reading a file whole and writing one whole. (This project's own, over the calls of `Files`.)
-use Rattle.std.specs.Prelude.{◌≡◌, ℕ, ◌≤◌, List, ◌++◌, Result, OnOk, OnErr, IfOk, IfErr, IsTrue, ◌⊎◌, length, take, Option, Some, None, Ok, Err, Vec}
+use Rattle.std.specs.Prelude.{◌≡◌, ℕ, ◌≤◌, List, ◌++◌, Result, OnOk, OnErr, IfOk, IfErr, IsTrue, ◌⊎◌, length, take, Some, None, Ok, Err, Vec}
 use Rattle.cerco_base.specs.Causes.{HasCause}
 use Rattle.cerco_base.specs.States.{FilesState, SameFiles, Puts}
 use Rattle.cerco_base.specs.declared.faults.IoFault.{IoFault}

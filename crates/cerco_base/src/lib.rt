@@ -11,6 +11,8 @@ pub mod memory;
 pub mod outside;
 pub mod sound;
 pub mod store;
+#[cfg(test)]
+mod tests;
 pub mod transfer;
 
 pub use events::{Event, Label, Port};

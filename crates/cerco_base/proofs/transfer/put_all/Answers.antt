@@ -1,7 +1,6 @@
-use Rattle.std.proofs.Common.{rules, ◌≡◌, ℕ, ◌-◌, ◌<◌, ◌≤◌, List, [], length, take, drop, refl, sym, ap, subst, ◌∙◌, arith, take_all, Ok, Err}
+use Rattle.std.proofs.Common.{rules, ◌≡◌, ℕ, ◌-◌, ◌<◌, List, length, drop, subst, arith, take_all}
 use Rattle.std.proofs.lemmas.Result.{err_from_is_err_and}
 use Rattle.std.proofs.lemmas.List.{length-drop, nil_from_length}
-use Rattle.cerco_base.specs.Calls.{PutsText, PutsSome}
 use Rattle.cerco_base.proofs.Putting.{SoFar, begun, taken, all_put, cut_short}
 use Rattle.cerco_base.proofs.transfer.put_all.Goals as goal
 

@@ -1,8 +1,6 @@
-use Rattle.std.proofs.Common.{rules, arith, ◌≡◌, ◌<◌, ℕ, ◌+◌, ◌-◌, ◌*◌, ◌≤◌, length, List, [], ◌∷◌, ◌++◌, take, drop, Ok, sym, subst, ap, ◌∙◌}
+use Rattle.std.proofs.Common.{rules, ◌≡◌, ◌<◌, ℕ, ◌+◌, ◌≤◌, length, List, ◌++◌, take, ap, ◌∙◌}
 use Rattle.std.proofs.lemmas.List.{take-append-le}
-use Rattle.cerco_base.specs.Calls.{ReadsAt}
-use Rattle.cerco_base.specs.WholeFiles.{ReadsWhole}
-use Rattle.cerco_base.proofs.Reading.{ReadSoFar, more_read, read_to_end}
+use Rattle.cerco_base.proofs.Reading.{more_read, read_to_end}
 use Rattle.cerco_base.proofs.transfer.read_whole.Goals as goal
 
 pub returns-then-count-eq0 : goal.returns-then-count-eq0

@@ -1,4 +1,4 @@
-use Rattle.std.proofs.Common.{◌≡◌, ℕ, ◌+◌, ◌-◌, ◌*◌, ◌<◌, ◌≤◌, length}
+use Rattle.std.proofs.Common.{◌-◌, length}
 use Rattle.cerco_base.proofs.Reading.{ReadSoFar}
 use Rattle.cerco_base.proofs.transfer.read_whole.Given as goal
 

@@ -1,7 +1,6 @@
-use Rattle.std.proofs.Common.{rules, arith, ◌≡◌, ℕ, List, string_bytes, bytes_eq, false, Some, option_map}
+use Rattle.std.proofs.Common.{arith}
 use Rattle.std.proofs.lemmas.Result.{err_from_is_err_and}
 use Rattle.std.proofs.lemmas.Map.Text.{text_keys}
-use Rattle.cerco_base.specs.Store.{file_of, SetsFile, SameNames}
 use Rattle.cerco_base.proofs.store.Store.add.Goals as goal
 
 pub returns-in_err-extend_from_slice-clause-same :

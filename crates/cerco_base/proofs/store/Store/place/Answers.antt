@@ -1,6 +1,5 @@
-use Rattle.std.proofs.Common.{rules, arith, ◌≡◌, ℕ, List, string_bytes, bytes_eq, false, Some, option_map}
+use Rattle.std.proofs.Common.{arith}
 use Rattle.std.proofs.lemmas.Map.Text.{text_keys}
-use Rattle.cerco_base.specs.Store.{file_of, SetsFile, SameNames}
 use Rattle.cerco_base.proofs.store.Store.place.Goals as goal
 
 pub returns-clause-done : goal.returns-clause-done
