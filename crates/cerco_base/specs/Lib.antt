@@ -5,3 +5,8 @@ pub mod WholeFiles
 pub mod Store
 pub mod Memory
 pub mod Host
+pub mod Events
+pub mod Systems
+pub mod Preservation
+pub mod Headline
+pub mod LabelledGraphs

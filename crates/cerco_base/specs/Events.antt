@@ -1,0 +1,30 @@
+-- What a run of a program shows to the outside, as in the labelling approach of CerCo (deliverable D2.1): the trace of a run
+-- is the list of its events, oldest first. An event is a cost label that is passed, or a byte read from or written to a port.
+use Rattle.std.specs.Prelude.{◌≡◌, ℕ, ◌+◌, ◌<◌, ◌^◌, List, [], ◌∷◌, ◌++◌, All}
+use Rattle.cerco_base.specs.declared.events.Event.{Event}
+use Rattle.cerco_base.specs.declared.events.Event.TheVariants.{Label, Read, Write}
+
+-- the event of passing label n
+abbrev pub label : ℕ → Event
+label n = Label (record { 0 = n })
+
+-- how many labels these events pass
+abbrev pub labels_in : List Event → ℕ
+labels_in [] = 0
+labels_in (Label l ∷ es) = 1 + labels_in es
+labels_in (Read port byte ∷ es) = labels_in es
+labels_in (Write port byte ∷ es) = labels_in es
+
+-- fs begins with es
+pub record IsPrefix (es fs : List Event) : Type 0 where
+  pub rest : List Event
+  pub whole : fs ≡ es ++ rest
+
+-- How a run stops: it stands before a label, or it has ended.
+pub data Stop : Type 0 where
+  Stopped : Stop
+  Ended : Stop
+
+-- A port script, the input that port readings take in turn, is a list of bytes.
+abbrev pub IsScript : List ℕ → Type 0
+IsScript = All (λ byte. byte < 2 ^ 8)
