@@ -1,4 +1,4 @@
--- What a run of a program shows to the outside, as in the labelling approach of CerCo (deliverable D2.1): the trace of a run
+-- What a run of a program shows to the outside, as in the labelling approach of CerCo (deliverable 2.1): the trace of a run
 -- is the list of its events, oldest first. An event is a cost label that is passed, or a byte read from or written to a port.
 use Rattle.std.specs.Prelude.{◌≡◌, ℕ, ◌+◌, ◌<◌, ◌^◌, List, [], ◌∷◌, ◌++◌, All}
 use Rattle.cerco_base.specs.declared.events.Event.{Event}

@@ -1,5 +1,5 @@
 -- What is promised of object code: it preserves the traces of its source, and at each stop the cycles that it took are the
--- costs of the labels that it passed. This is the correctness of a cost annotating compiler, as in CerCo (deliverable D2.1).
+-- costs of the labels that it passed. This is the correctness of a cost annotating compiler, as in CerCo (deliverable 2.1).
 use Rattle.std.specs.Prelude.{◌≡◌, ℕ, zero, suc, List}
 use Rattle.cerco_base.specs.declared.events.Event.{Event}
 use Rattle.cerco_base.specs.Events.{IsPrefix, Stop, IsScript}

@@ -1,6 +1,6 @@
 -- Trace preservation: what it means that a translated program behaves as the program that it was translated from. It is the
 -- preservation of observable events that CompCert proves of its passes, with the stops at cost labels of CerCo (deliverable
--- D2.1), and with bounds on the memory and the calls that a run uses.
+-- 2.1), and with bounds on the memory and the calls that a run uses.
 use Rattle.std.specs.Prelude.{◌≡◌, ℕ, ◌+◌, ◌<◌, ◌^◌, List, ◌++◌}
 use Rattle.cerco_base.specs.declared.events.Event.{Event}
 use Rattle.cerco_base.specs.Events.{labels_in, IsPrefix, Stop, IsScript}
