@@ -1,0 +1,37 @@
+//! How the program ends.
+ghost use Rattle.std.specs.Prelude.{◌≡◌};
+
+/// The exit status of the program.
+#[derive(Clone, Copy, Debug, PartialEq, Eq)]
+pub enum Status {
+    /// 0: the command is done.
+    Done,
+    /// 1: a file that the command reads isn't there.
+    NoFile,
+    /// 2: the words are no command.
+    Usage,
+    /// 3: the source is no program that can be built.
+    Refused,
+    /// 4: a call of the files failed.
+    FileFault,
+    /// 9: there was no memory.
+    NoMemory,
+}
+
+impl Status {
+    ghost use Rattle.cerco_command.specs.Status.{code_of};
+
+    /// Its number, which the program ends with.
+    pub fn code(self) -> u8
+        ensures { result ≡ code_of self }
+    {
+        match self {
+            Status::Done => 0,
+            Status::NoFile => 1,
+            Status::Usage => 2,
+            Status::Refused => 3,
+            Status::FileFault => 4,
+            Status::NoMemory => 9,
+        }
+    }
+}
