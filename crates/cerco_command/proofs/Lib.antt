@@ -1,2 +1,3 @@
 mod WordLists
 pub mod PortTexts
+pub mod PortCosts

@@ -23,11 +23,6 @@ ArePartlyWritten [] s t = SameFiles s t
 ArePartlyWritten (file ∷ files) s t =
     SameFiles s t ⊎ PutsPrefix s t file.0 file.1 ⊎ ((u : FilesState) × Puts s u file.0 file.1 × ArePartlyWritten files u t)
 
--- one of these names
-abbrev pub IsNameOf : List ℕ → List NamedText → Type 0
-IsNameOf name [] = ⊥
-IsNameOf name (file ∷ files) = (name ≡ file.0) ⊎ IsNameOf name files
-
 -- The program ends with a status that was meant, having put the text that was meant with it.
 pub record Answers (Means : Status → List ℕ → Type 0) (o p : SinkState) (code : ℕ) : Type 0 where
   pub status : Status

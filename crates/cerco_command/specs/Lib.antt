@@ -1,4 +1,5 @@
 pub mod Words
 pub mod Status
 pub mod PortPrograms
+pub mod PortObjects
 pub mod Answers

@@ -1,0 +1,51 @@
+-- The object of a program of port writes (Intel, MCS-51 instruction set), and what it costs.
+use Rattle.std.specs.Prelude.{ℕ, ◌+◌, List, [], ◌∷◌, ◌++◌, map, sum_by}
+use Rattle.std.specs.List.{flat_map}
+use Rattle.mcs51_isa.specs.declared.instr.Instr.{Instr}
+use Rattle.mcs51_isa.specs.declared.instr.Instr.TheVariants.{Nop, Long, Return, Sjmp, MovDirectImmediate}
+use Rattle.mcs51_isa.specs.declared.instr.LongJump.TheVariants.{Lcall}
+use Rattle.mcs51_isa.specs.declared.instr.ReturnKind.TheVariants.{Ret}
+use Rattle.mcs51_isa.specs.Table.{encode_of, cycles_of}
+use Rattle.clight_syntax.specs.Annotations.{Costs}
+use Rattle.clight_syntax.specs.declared.points.Point.{Point}
+use Rattle.clight_syntax.specs.declared.points.Piece.TheVariants.{Start, After}
+
+-- sets the stack up from address 80H on, and calls `main`
+abbrev pub start : List Instr
+start = MovDirectImmediate 0x81 0x7F ∷ Long Lcall 8 ∷ []
+
+-- halts when `main` has returned
+abbrev pub halt : List Instr
+halt = Sjmp 0xFE ∷ []
+
+-- writes a byte to port 1
+abbrev pub write : ℕ → Instr
+write value = MovDirectImmediate 0x90 value
+
+-- `main`, whose label is the first instruction
+abbrev pub body : List ℕ → List Instr
+body values = Nop ∷ (map write values ++ Return Ret ∷ [])
+
+-- all instructions, from address 0 on
+abbrev pub instructions : List ℕ → List Instr
+instructions values = start ++ (halt ++ body values)
+
+-- their bytes
+abbrev pub bytes_of : List Instr → List ℕ
+bytes_of = flat_map encode_of
+
+-- the address of label 0
+abbrev pub labels : List ℕ
+labels = 8 ∷ []
+
+-- what instructions cost that are executed one after the other
+abbrev pub cost_of : List Instr → ℕ
+cost_of = sum_by cycles_of
+
+-- the cost of the start, and that of label 0
+abbrev pub costs : List ℕ → Costs
+costs values = record { start = cost_of start; labels = cost_of (body values) ∷ [] }
+
+-- where the annotations stand: at the text's start, and behind the brace that opens `main`
+abbrev pub points : List Point
+points = record { at = 0; piece = Start } ∷ record { at = 16; piece = After (record { 0 = 0 }) } ∷ []
