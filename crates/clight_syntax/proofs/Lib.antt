@@ -1,0 +1,4 @@
+pub mod Cutting
+pub mod DecimalTexts
+pub mod AnnotatedText
+pub mod Examples
