@@ -1,0 +1,102 @@
+//! The annotated text of a source: the source with the C text that makes it count its own cost.
+#![tactic(auto)]
+
+ghost use Rattle.std.specs.Prelude.{◌≡◌, ◌++◌, length, decimal};
+ghost use Rattle.std.specs.List.{flat_map};
+ghost use Rattle.cerco_base.specs.Calls.{PutsText};
+ghost use Rattle.clight_syntax.specs.Annotations.{annotated, piece_text, AreInOrder, HasLabelsBelow, HaveLabelsBelow, numbers_of};
+ghost use Rattle.clight_syntax.specs.Erasure.{erased, HasNoMarker};
+ghost use Rattle.clight_syntax.specs.Numbers.{numbers};
+
+use cerco_base::{IoFault, Sink, put_all};
+use clight_syntax::{Piece, Point, Points};
+use itoa::Buffer;
+
+// Puts a number in decimal between two texts.
+fn put_number<O: Sink>(
+    before: &[u8],
+    number: u32,
+    behind: &[u8],
+    out: &mut O,
+) -> Result<(), IoFault>
+    ensures { PutsText (O.state out.old) (O.state out.new)
+        (before.now ++ (decimal number ++ behind.now)) result }
+{
+    put_all(out, before)?;
+    let mut digits = Buffer::new();
+    put_all(out, digits.format(number).as_bytes())?;
+    put_all(out, behind)
+}
+
+// Puts an annotation.
+fn put_piece<O: Sink>(piece: Piece, start: u32, costs: &[u32], out: &mut O) -> Result<(), IoFault>
+    requires { HasLabelsBelow (length costs.now) piece }
+    ensures { PutsText (O.state out.old) (O.state out.new)
+        (piece_text (record { start = start; labels = costs.now }) piece) result }
+{
+    match piece {
+        Piece::Start => put_number(b"/*@*/unsigned long __cost=", start, b";/*@*/", out),
+        Piece::After(label) => {
+            put_number(b"/*@*/__cost+=", costs[label.0 as usize], b";/*@*/", out)
+        }
+    }
+}
+
+// Puts the source with the annotation of each point before the byte at its offset.
+fn put_annotated<O: Sink>(
+    source: &[u8],
+    points: &[Point],
+    start: u32,
+    costs: &[u32],
+    out: &mut O,
+) -> Result<(), IoFault>
+    requires ordered { AreInOrder (length source.now) points.now }
+    requires labelled { HaveLabelsBelow (length costs.now) points.now }
+    ensures { PutsText (O.state out.old) (O.state out.new)
+        (annotated source.now points.now (record { start = start; labels = costs.now })) result }
+{
+    let mut from = 0;
+    for point in points {
+        let at = point.at as usize;
+        put_all(out, &source[from..at])?;
+        put_piece(point.piece, start, costs, out)?;
+        from = at;
+    }
+    put_all(out, &source[from..])
+}
+
+/// Puts the annotated text of a source: before the byte at each point's offset stands its
+/// annotation, with the cost of the program's start or of its label. It takes no memory but
+/// through the output.
+///
+/// # Errors
+///
+/// The fault of the output. A prefix of the text was put then.
+pub fn annotate<O: Sink>(
+    source: &[u8],
+    points: &Points,
+    start: u32,
+    costs: &[u32],
+    out: &mut O,
+) -> Result<(), IoFault>
+    requires ordered { AreInOrder (length source.now) points.now }
+    requires labelled { HaveLabelsBelow (length costs.now) points.now }
+
+    ensures puts { PutsText (O.state out.old) (O.state out.new)
+        (annotated source.now points.now (record { start = start; labels = costs.now })) result }
+
+    // Without the annotations it is the source again.
+    ensures erases { HasNoMarker source.now →
+        erased (annotated source.now points.now (record { start = start; labels = costs.now }))
+        ≡ source.now }
+
+    // Its numbers are those of the annotations, in order.
+    ensures counts { HasNoMarker source.now →
+        numbers (annotated source.now points.now (record { start = start; labels = costs.now }))
+        ≡ flat_map (λ point. numbers_of (record { start = start; labels = costs.now }) point.piece) points.now }
+{
+    put_annotated(source, points.as_slice(), start, costs, out)
+}
+
+#[cfg(test)]
+mod tests;

@@ -1,0 +1,59 @@
+use super::*;
+use cerco_base::{Label, MemorySink, SoundSink};
+use std::test::Fail;
+
+const START: Point = Point {
+    at: 0,
+    piece: Piece::Start,
+};
+
+// Behind the brace of `void main(void){`.
+const BODY: Point = Point {
+    at: 16,
+    piece: Piece::After(Label(0)),
+};
+
+#[test]
+fn an_empty_main_is_annotated(rt: HostRuntime) -> Result<(), Fail> {
+    let mut points = Points::new(rt.alloc());
+    points.push(START)?;
+    points.push(BODY)?;
+    let mut out = SoundSink::new(rt.alloc());
+    annotate(b"void main(void){}", &points, 4, &[3], &mut out)?;
+    assert_eq!(rt;
+        out.bytes(),
+        b"/*@*/unsigned long __cost=4;/*@*/void main(void){/*@*/__cost+=3;/*@*/}".as_slice()
+    );
+    Ok(())
+}
+
+#[test]
+fn a_main_with_a_port_write_is_annotated(rt: HostRuntime) -> Result<(), Fail> {
+    let mut points = Points::new(rt.alloc());
+    points.push(START)?;
+    points.push(BODY)?;
+    let mut out = MemorySink::new(rt.alloc());
+    annotate(b"void main(void){P1=5;}", &points, 4, &[5], &mut out)?;
+    assert_eq!(rt;
+        out.bytes(),
+        b"/*@*/unsigned long __cost=4;/*@*/void main(void){/*@*/__cost+=5;/*@*/P1=5;}".as_slice()
+    );
+    Ok(())
+}
+
+#[test]
+fn a_fault_leaves_a_prefix(rt: HostRuntime) -> Result<(), Fail> {
+    let mut points = Points::new(rt.alloc());
+    points.push(START)?;
+    let mut out = MemorySink::new(rt.alloc());
+    out.fail(2)?;
+    assert_eq!(rt;
+        annotate(b"a", &points, 4_294_967_295, &[], &mut out),
+        Err(IoFault::Failed)
+    );
+    assert_eq!(rt;
+        out.bytes(),
+        b"/*@*/unsigned long __cost=4294967295".as_slice()
+    );
+    Ok(())
+}
