@@ -1,0 +1,6 @@
+pub mod State
+pub mod Locations
+pub mod Effect
+pub mod Step
+pub mod Runs
+pub mod Places

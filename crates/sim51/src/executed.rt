@@ -1,0 +1,25 @@
+//! What an instruction comes to besides what it changes.
+ghost use Rattle.std.specs.Prelude.{◌≡◌, None};
+
+use cerco_base::Port;
+
+/// Where the machine goes on after an instruction, and the port that it read and wrote.
+#[derive(Clone, Copy)]
+pub(crate) struct Executed {
+    pub(crate) pc: u16,
+    pub(crate) read: Option<(Port, u8)>,
+    pub(crate) write: Option<(Port, u8)>,
+}
+
+impl Executed {
+    /// The machine goes on at this address. No port was read or written.
+    pub(crate) fn at(pc: u16) -> Executed
+        ensures { result ≡ record { pc = pc; read = None; write = None } }
+    {
+        Executed {
+            pc,
+            read: None,
+            write: None,
+        }
+    }
+}

@@ -1,0 +1,120 @@
+//! The machine with its code.
+ghost use Rattle.std.specs.Prelude.{◌≡◌, ◌<◌, ◌≤◌, ◌^◌, length, slice_index, IfOk, nat_eq};
+ghost use Rattle.std.specs.List.{IsDistinct};
+ghost use Rattle.cerco_base.specs.Headline.{ArrivesOnce};
+ghost use Rattle.sim51.specs.State.{reset};
+ghost use Rattle.sim51.specs.Step.{step};
+ghost use Rattle.sim51.specs.Runs.{object, cycles_of_run};
+ghost use Rattle.sim51.specs.Places.{moved, KeepsState};
+
+use crate::events::{Events, Step};
+use crate::places::{places, Place};
+use crate::processor::Processor;
+use cerco_base::NoMemory;
+use std::alloc::Global;
+use std::marker::Model;
+
+/// A machine with code, with the addresses of labels in it, and with a script of the bytes that the
+/// pins of ports show. Contracts see it as the record of code, label addresses and state.
+#[derive(Drop)]
+pub struct Machine<'a> {
+    code: Vec<u8>,
+    labels: Vec<u16>,
+    places: Vec<Place>,
+    processor: Processor<'a>,
+    pc: u16,
+    cycles: u64,
+}
+
+impl<'a> Model for Machine<'a> {
+    ghost use Rattle.sim51.specs.Places.{LoadedMachine, ArePlaces};
+
+    ghost Value = { LoadedMachine };
+
+    ghost view = { λ m. record {
+        code = m.code.items;
+        labels = m.labels.items;
+        state = record { core = m.processor; pc = m.pc; cycles = m.cycles }
+    } };
+
+    ghost invariant = { λ m. ArePlaces m.code.items m.labels.items m.places.items };
+}
+
+impl<'a> Machine<'a> {
+    /// A machine at reset: the code stands from address 0 on, and label k stands at `labels[k]`.
+    pub fn load(
+        alloc: Global,
+        code: &[u8],
+        labels: &[u16],
+        script: &'a [u8],
+    ) -> Result<Machine<'a>, NoMemory>
+        requires fits { length code.now ≤ 65536 }
+        requires distinct { IsDistinct nat_eq labels.now }
+        ensures reset { IfOk result (λ m. m ≡ record { code = code.now; labels = labels.now; state = reset script.now }) }
+        // whatever script it runs on, it comes to an n-th stop in one way at most
+        ensures arrives_once { ArrivesOnce (object code.now labels.now) cycles_of_run }
+    {
+        let places = places(alloc, code, labels)?;
+        let processor = Processor::reset(alloc, script)?;
+        Ok(Machine {
+            code: code.to_vec(alloc)?,
+            labels: labels.to_vec(alloc)?,
+            places,
+            processor,
+            pc: 0,
+            cycles: 0,
+        })
+    }
+
+    /// One step. It takes no memory.
+    pub fn step(&mut self) -> Step
+        requires { self.old.state.cycles < 2 ^ 62 }
+        ensures code { self.new.code ≡ self.old.code }
+        ensures labels { self.new.labels ≡ self.old.labels }
+        ensures moved { step self.old.code self.old.labels self.old.state ≡ moved result self.new.state }
+        ensures keeps_state { KeepsState result self.old.state self.new.state }
+    {
+        match self.places[self.pc as usize] {
+            Place::Halt => Step::Halted,
+            Place::Reserved => Step::Reserved,
+            Place::Runs(planned) => {
+                let executed = self.processor.execute(&self.code, planned.instr, planned.next);
+                self.pc = executed.pc;
+                self.cycles += planned.cycles as u64;
+                Step::Went(Events {
+                    label: planned.label,
+                    read: executed.read,
+                    write: executed.write,
+                })
+            }
+        }
+    }
+
+    /// The machine cycles so far.
+    pub fn cycles(&self) -> u64
+        ensures { result ≡ self.now.state.cycles }
+    {
+        self.cycles
+    }
+
+    /// The address of the next instruction.
+    pub fn pc(&self) -> u16
+        ensures { result ≡ self.now.state.pc }
+    {
+        self.pc
+    }
+
+    /// A byte of internal RAM.
+    pub fn iram(&self, a: u8) -> u8
+        ensures { result ≡ slice_index self.now.state.core.iram a }
+    {
+        self.processor.iram(a)
+    }
+
+    /// A byte of external RAM.
+    pub fn xram(&self, a: u16) -> u8
+        ensures { result ≡ slice_index self.now.state.core.xram a }
+    {
+        self.processor.xram(a)
+    }
+}

@@ -1,0 +1,99 @@
+//! What a step does at each address of a code, worked out once.
+ghost use Rattle.std.specs.Prelude.{◌≡◌, ◌<◌, ℕ, Some, IfOk, length, nat_eq, slice_get};
+ghost use Rattle.std.specs.List.{IsDistinct};
+ghost use Rattle.mcs51_isa.specs.Decoding.{with_length};
+ghost use Rattle.sim51.specs.Step.{instr_at, next_address, halts, label_at};
+ghost use Rattle.sim51.specs.Places.{place_by, place_of, ArePlaces};
+
+use crate::code::byte_at;
+use cerco_base::{Label, NoMemory};
+use mcs51_isa::{cycles, decode, length, relative_target, Instr, LongJump};
+use std::alloc::Global;
+
+/// An instruction, with what doesn't depend on the machine's state.
+#[derive(Clone, Copy)]
+pub(crate) struct Planned {
+    pub(crate) instr: Instr,
+    /// The address of the next instruction.
+    pub(crate) next: u16,
+    pub(crate) cycles: u8,
+    /// The label at the instruction's address.
+    pub(crate) label: Option<Label>,
+}
+
+/// What a step does at an address.
+#[derive(Clone, Copy)]
+pub(crate) enum Place {
+    /// A jump to itself stands here.
+    Halt,
+    /// The reserved opcode stands here.
+    Reserved,
+    /// This instruction is made.
+    Runs(Planned),
+}
+
+fn instr_at(code: &[u8], at: u16) -> Option<(Instr, u8)>
+    ensures { result ≡ with_length (instr_at code.now at) }
+{
+    decode([
+        byte_at(code, at),
+        byte_at(code, at.wrapping_add(1)),
+        byte_at(code, at.wrapping_add(2)),
+    ])
+}
+
+fn halts(instr: Instr, next: u16, at: u16) -> bool
+    requires { next ≡ next_address at instr }
+    ensures { result ≡ halts instr at }
+{
+    match instr {
+        Instr::Sjmp(offset) => relative_target(next, offset) == at,
+        Instr::Long(LongJump::Ljmp, target) => target == at,
+        Instr::Ajmp(target) => target.target(next) == at,
+        _ => false,
+    }
+}
+
+fn place_at(code: &[u8], label: Option<Label>, at: u16) -> Place
+    ensures { result ≡ place_by (instr_at code.now at) label at }
+{
+    let Some((instr, length)) = instr_at(code, at) else {
+        return Place::Reserved;
+    };
+    let next = at.wrapping_add(length as u16);
+    if halts(instr, next, at) {
+        return Place::Halt;
+    }
+    Place::Runs(Planned {
+        instr,
+        next,
+        cycles: cycles(instr),
+        label,
+    })
+}
+
+/// The label at each address.
+fn label_table(alloc: Global, labels: &[u16]) -> Result<Vec<Option<Label>>, NoMemory>
+    requires { IsDistinct nat_eq labels.now }
+    ensures count { IfOk result (λ table. length table.items ≡ 65536) }
+    ensures each { IfOk result (λ table. (a : ℕ) → a < 65536 → slice_get table.items a ≡ Some (label_at labels.now a)) }
+{
+    let mut table = vec![in alloc; None; 65536]?;
+    for (number, at) in labels.iter().enumerate() {
+        table[*at as usize] = Some(Label(number as u16));
+    }
+    Ok(table)
+}
+
+/// What a step does at each address.
+pub(crate) fn places(alloc: Global, code: &[u8], labels: &[u16]) -> Result<Vec<Place>, NoMemory>
+    requires { IsDistinct nat_eq labels.now }
+    ensures { IfOk result (λ places. ArePlaces code.now labels.now places.items) }
+{
+    let table = label_table(alloc, labels)?;
+    let mut places = Vec::with_capacity(alloc, table.len())?;
+    for (at, label) in table.iter().enumerate() {
+        places.push(place_at(code, *label, at as u16))?;
+    }
+    Ok(places)
+}
