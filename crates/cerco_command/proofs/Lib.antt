@@ -1,3 +1,4 @@
 mod WordLists
 pub mod PortTexts
 pub mod PortCosts
+mod Promise
