@@ -1,0 +1,4 @@
+pub mod Operands
+pub mod Opcodes
+pub mod Table
+pub mod Decoding
