@@ -1,4 +1,5 @@
 pub mod Operands
-pub mod Opcodes
+pub mod Operators
 pub mod Table
 pub mod Decoding
+pub mod Listing

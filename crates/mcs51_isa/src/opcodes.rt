@@ -8,7 +8,7 @@ use crate::instr::{
 
 impl LongJump {
     ghost use Rattle.std.specs.Prelude.{◌≡◌};
-    ghost use Rattle.mcs51_isa.specs.Opcodes.{long_jump_opcode};
+    ghost use Rattle.mcs51_isa.specs.Operators.{long_jump_opcode};
 
     pub(crate) fn opcode(self) -> u8
         ensures { result ≡ long_jump_opcode self }
@@ -22,7 +22,7 @@ impl LongJump {
 
 impl ReturnKind {
     ghost use Rattle.std.specs.Prelude.{◌≡◌};
-    ghost use Rattle.mcs51_isa.specs.Opcodes.{return_opcode};
+    ghost use Rattle.mcs51_isa.specs.Operators.{return_opcode};
 
     pub(crate) fn opcode(self) -> u8
         ensures { result ≡ return_opcode self }
@@ -36,7 +36,7 @@ impl ReturnKind {
 
 impl Rotate {
     ghost use Rattle.std.specs.Prelude.{◌≡◌};
-    ghost use Rattle.mcs51_isa.specs.Opcodes.{rotate_opcode};
+    ghost use Rattle.mcs51_isa.specs.Operators.{rotate_opcode};
 
     pub(crate) fn opcode(self) -> u8
         ensures { result ≡ rotate_opcode self }
@@ -52,7 +52,7 @@ impl Rotate {
 
 impl Step {
     ghost use Rattle.std.specs.Prelude.{◌≡◌, ◌≤◌};
-    ghost use Rattle.mcs51_isa.specs.Opcodes.{step_row};
+    ghost use Rattle.mcs51_isa.specs.Operators.{step_row};
 
     pub(crate) fn row(self) -> u8
         ensures value { result ≡ step_row self }
@@ -67,7 +67,7 @@ impl Step {
 
 impl BitTest {
     ghost use Rattle.std.specs.Prelude.{◌≡◌};
-    ghost use Rattle.mcs51_isa.specs.Opcodes.{bit_test_opcode};
+    ghost use Rattle.mcs51_isa.specs.Operators.{bit_test_opcode};
 
     pub(crate) fn opcode(self) -> u8
         ensures { result ≡ bit_test_opcode self }
@@ -82,7 +82,7 @@ impl BitTest {
 
 impl FlagTest {
     ghost use Rattle.std.specs.Prelude.{◌≡◌};
-    ghost use Rattle.mcs51_isa.specs.Opcodes.{flag_test_opcode};
+    ghost use Rattle.mcs51_isa.specs.Operators.{flag_test_opcode};
 
     pub(crate) fn opcode(self) -> u8
         ensures { result ≡ flag_test_opcode self }
@@ -98,7 +98,7 @@ impl FlagTest {
 
 impl Arith {
     ghost use Rattle.std.specs.Prelude.{◌≡◌, ◌≤◌};
-    ghost use Rattle.mcs51_isa.specs.Opcodes.{arith_row};
+    ghost use Rattle.mcs51_isa.specs.Operators.{arith_row};
 
     pub(crate) fn row(self) -> u8
         ensures value { result ≡ arith_row self }
@@ -114,7 +114,7 @@ impl Arith {
 
 impl Logic {
     ghost use Rattle.std.specs.Prelude.{◌≡◌, ◌≤◌};
-    ghost use Rattle.mcs51_isa.specs.Opcodes.{logic_row};
+    ghost use Rattle.mcs51_isa.specs.Operators.{logic_row};
 
     pub(crate) fn row(self) -> u8
         ensures value { result ≡ logic_row self }
@@ -130,7 +130,7 @@ impl Logic {
 
 impl CarryOp {
     ghost use Rattle.std.specs.Prelude.{◌≡◌};
-    ghost use Rattle.mcs51_isa.specs.Opcodes.{carry_opcode};
+    ghost use Rattle.mcs51_isa.specs.Operators.{carry_opcode};
 
     pub(crate) fn opcode(self) -> u8
         ensures { result ≡ carry_opcode self }
@@ -146,7 +146,7 @@ impl CarryOp {
 
 impl TableBase {
     ghost use Rattle.std.specs.Prelude.{◌≡◌};
-    ghost use Rattle.mcs51_isa.specs.Opcodes.{table_base_opcode};
+    ghost use Rattle.mcs51_isa.specs.Operators.{table_base_opcode};
 
     pub(crate) fn opcode(self) -> u8
         ensures { result ≡ table_base_opcode self }
@@ -160,7 +160,7 @@ impl TableBase {
 
 impl MulDiv {
     ghost use Rattle.std.specs.Prelude.{◌≡◌};
-    ghost use Rattle.mcs51_isa.specs.Opcodes.{mul_div_opcode};
+    ghost use Rattle.mcs51_isa.specs.Operators.{mul_div_opcode};
 
     pub(crate) fn opcode(self) -> u8
         ensures { result ≡ mul_div_opcode self }
@@ -174,7 +174,7 @@ impl MulDiv {
 
 impl BitChange {
     ghost use Rattle.std.specs.Prelude.{◌≡◌, ◌≤◌};
-    ghost use Rattle.mcs51_isa.specs.Opcodes.{change_row};
+    ghost use Rattle.mcs51_isa.specs.Operators.{change_row};
 
     pub(crate) fn row(self) -> u8
         ensures value { result ≡ change_row self }
@@ -190,7 +190,7 @@ impl BitChange {
 
 impl StackOp {
     ghost use Rattle.std.specs.Prelude.{◌≡◌};
-    ghost use Rattle.mcs51_isa.specs.Opcodes.{stack_opcode};
+    ghost use Rattle.mcs51_isa.specs.Operators.{stack_opcode};
 
     pub(crate) fn opcode(self) -> u8
         ensures { result ≡ stack_opcode self }
@@ -204,7 +204,7 @@ impl StackOp {
 
 impl Adjustment {
     ghost use Rattle.std.specs.Prelude.{◌≡◌};
-    ghost use Rattle.mcs51_isa.specs.Opcodes.{adjustment_opcode};
+    ghost use Rattle.mcs51_isa.specs.Operators.{adjustment_opcode};
 
     pub(crate) fn opcode(self) -> u8
         ensures { result ≡ adjustment_opcode self }
@@ -218,7 +218,7 @@ impl Adjustment {
 
 impl Transfer {
     ghost use Rattle.std.specs.Prelude.{◌≡◌, ◌≤◌};
-    ghost use Rattle.mcs51_isa.specs.Opcodes.{transfer_row};
+    ghost use Rattle.mcs51_isa.specs.Operators.{transfer_row};
 
     pub(crate) fn row(self) -> u8
         ensures value { result ≡ transfer_row self }
@@ -233,7 +233,7 @@ impl Transfer {
 
 impl Whole {
     ghost use Rattle.std.specs.Prelude.{◌≡◌};
-    ghost use Rattle.mcs51_isa.specs.Opcodes.{whole_opcode};
+    ghost use Rattle.mcs51_isa.specs.Operators.{whole_opcode};
 
     pub(crate) fn opcode(self) -> u8
         ensures { result ≡ whole_opcode self }
