@@ -11,6 +11,8 @@ pub mod mnemonics;
 mod opcodes;
 pub mod operands;
 pub mod targets;
+#[cfg(test)]
+mod tests;
 pub mod timing;
 
 pub use decoding::decode;
