@@ -1,14 +1,16 @@
 -- What a step is, by the instruction at its address.
-use Rattle.std.proofs.Common.{◌≡◌, ℕ, ◌+◌, ◌%◌, List, Option, Some, None, Bool, true, false, cond, refl, sym, ap, ◌∙◌, arith, slice_index}
+use Rattle.std.proofs.Common.{◌≡◌, ℕ, ◌+◌, ◌%◌, List, Option, Some, None, Bool, true, false, cond, refl, sym, ap, ◌∙◌, arith, slice_index, get_or, ◌<◌}
+use Rattle.std.proofs.lemmas.Option.{get_or_from_slice_get}
 use Rattle.cerco_base.specs.declared.events.Label.{Label}
 use Rattle.mcs51_isa.specs.declared.instr.Instr.{Instr}
 use Rattle.sim51.specs.declared.places.Place.{Place}
 use Rattle.sim51.specs.declared.places.Place.TheVariants as Place
+use Rattle.sim51.specs.declared.places.Planned.{Planned}
 use Rattle.sim51.specs.State.{State}
-use Rattle.sim51.specs.Effect.{code_at, effect}
+use Rattle.sim51.specs.Effect.{Effect, code_at, effect}
 use Rattle.mcs51_isa.specs.Table.{cycles_of}
 use Rattle.sim51.specs.Step.{Moved, Halts, Reserved, Goes, label_at, instr_at, next_address, halts, made, moved_by, step}
-use Rattle.sim51.specs.Places.{place_by, place_of}
+use Rattle.sim51.specs.Places.{LoadedMachine, ArePlaces, place_by, place_of}
 
 pub code_at_mod : (code : List ℕ) (a : ℕ) → code_at code (a % 65536) ≡ code_at code a
 code_at_mod code a = let e : a % 65536 % 65536 ≡ a % 65536 = omega arith in ap (slice_index code) e
@@ -26,13 +28,14 @@ module _ (code labels : List ℕ) (s : State) where
   unfolding step
   step_goes i e h = ap (λ o. moved_by code labels o s) e ∙ ap (λ b. cond b Halts (made code labels i s)) h
 
+abbrev pub goes_with : Planned → Effect → State → Moved
+goes_with p e s = Goes (record { label = p.label; read = e.read; write = e.write }) (record { core = e.core; pc = e.pc; cycles = s.cycles + p.cycles })
+
 -- a step by what was worked out for its address
 abbrev pub moved_at : List ℕ → Place → State → Moved
 moved_at code Place.Halt s = Halts
 moved_at code Place.Reserved s = Reserved
-moved_at code (Place.Runs p) s =
-    let e = effect code p.instr p.next s.core in
-    Goes (record { label = p.label; read = e.read; write = e.write }) (record { core = e.core; pc = e.pc; cycles = s.cycles + p.cycles })
+moved_at code (Place.Runs p) s = goes_with p (effect code p.instr p.next s.core) s
 
 moved_by-place : (code labels : List ℕ) (s : State) (o : Option Instr) → moved_by code labels o s ≡ moved_at code (place_by o (label_at labels s.pc) s.pc) s
 moved_by-place code labels s None = refl
@@ -42,8 +45,17 @@ moved_by-place code labels s (Some i) = if_halts (halts i s.pc)
     if_halts true = refl
     if_halts false = refl
 
-pub step_at : (code labels : List ℕ) (s : State) (p : Place) → Some (place_of code labels s.pc) ≡ Some p → step code labels s ≡ moved_at code p s
+-- a place that was read from the table of all places tells what the step is
+pub step_at : (code labels : List ℕ) (s : State) (places : List Place) (read p : Place) → ArePlaces code labels places → s.pc < 65536 → read ≡ get_or places s.pc read → read ≡ p → step code labels s ≡ moved_at code p s
 unfolding step
-step_at code labels s p e =
-    let q : place_of code labels s.pc ≡ p = cc in
-    moved_by-place code labels s (instr_at code s.pc) ∙ ap (λ q. moved_at code q s) q
+step_at code labels s places read p all low here is =
+    let right : read ≡ place_of code labels s.pc = here ∙ get_or_from_slice_get places s.pc _ read (all.each s.pc low) in
+    moved_by-place code labels s (instr_at code s.pc) ∙ ap (λ q. moved_at code q s) (sym right ∙ is)
+
+-- the same where an instruction is made, whose effect the code and the planned instruction tell
+pub step_runs : (code labels : List ℕ) (s : State) (places : List Place) (read : Place) (p : Planned) (e : Effect) → ArePlaces code labels places → s.pc < 65536 → read ≡ get_or places s.pc read → read ≡ Place.Runs p → e ≡ effect code p.instr p.next s.core → step code labels s ≡ goes_with p e s
+step_runs code labels s places read p e all low here is made =
+    step_at code labels s places read (Place.Runs p) all low here is ∙ ap (λ (x : Effect). goes_with p x s) (sym made)
+
+pub step_in : (m m' : LoadedMachine) → m ≡ m' → step m'.code m'.labels m'.state ≡ step m.code m.labels m.state
+step_in m m' e = sym (ap (λ (q : LoadedMachine). step q.code q.labels q.state) e)

@@ -4,3 +4,4 @@ pub mod Effect
 pub mod Step
 pub mod Runs
 pub mod Places
+pub mod Placed

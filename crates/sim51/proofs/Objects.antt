@@ -1,0 +1,72 @@
+-- The runs of object code come to each stop in one way.
+use Rattle.std.proofs.Common.{◌≡◌, ℕ, ◌+◌, ◌≤◌, IsTrue, Bool, true, false, is_some, List, [], ◌∷◌, ◌++◌, Option, Some, None, refl, ap, ◌∙◌, arith}
+use Rattle.cerco_base.specs.declared.events.Port.{Port}
+use Rattle.cerco_base.specs.declared.events.Label.{Label}
+use Rattle.cerco_base.specs.declared.events.Event.{Event}
+use Rattle.cerco_base.specs.declared.events.Event.TheVariants as Kind
+use Rattle.cerco_base.specs.Events.{labels_in}
+use Rattle.cerco_base.specs.Headline.{ArrivesOnce}
+use Rattle.cerco_base.proofs.HeadlineProofs.{StopsOnce, arrives_once}
+use Rattle.sim51.specs.declared.events.Events.{Events}
+use Rattle.sim51.specs.State.{State}
+use Rattle.sim51.specs.Step.{Moved, Halts, Reserved, Goes, step}
+use Rattle.sim51.specs.Runs.{Running, object, advanced, passes_label, has_halted, events_of, cycles_of_run}
+
+pub labels_in-append : (es fs : List Event) → labels_in (es ++ fs) ≡ labels_in es + labels_in fs
+labels_in-append [] fs = omega arith
+labels_in-append (Kind.Label l ∷ es) fs = omega (arith, labels_in-append es fs)
+labels_in-append (Kind.Read port byte ∷ es) fs = labels_in-append es fs
+labels_in-append (Kind.Write port byte ∷ es) fs = labels_in-append es fs
+
+-- how many labels a step passes
+abbrev count_of : Option Label → ℕ
+count_of None = 0
+count_of (Some l) = 1
+
+labels_in-events_of : (label : Option Label) (read write : Option (Port × ℕ)) → labels_in (events_of (record { label = label; read = read; write = write })) ≡ count_of label
+labels_in-events_of None None None = refl
+labels_in-events_of None None (Some w) = refl
+labels_in-events_of None (Some r) None = refl
+labels_in-events_of None (Some r) (Some w) = refl
+labels_in-events_of (Some l) None None = refl
+labels_in-events_of (Some l) None (Some w) = refl
+labels_in-events_of (Some l) (Some r) None = refl
+labels_in-events_of (Some l) (Some r) (Some w) = refl
+
+labels_in-advanced : (r : Running) (e : Events) → labels_in (r.events ++ events_of e) ≡ labels_in r.events + count_of e.label
+labels_in-advanced r e = labels_in-append r.events (events_of e) ∙ ap (λ n. labels_in r.events + n) (labels_in-events_of e.label e.read e.write)
+
+label_passed : (r : Running) (m : Moved) → IsTrue (passes_label m) → labels_in (advanced r m).events ≡ labels_in r.events + 1
+label_passed r Halts due = absurd cc
+label_passed r Reserved due = absurd cc
+label_passed r (Goes e s) due = labels_in-advanced r e ∙ ap (λ n. labels_in r.events + n) (one e.label due)
+  where
+    one : (label : Option Label) → IsTrue (is_some label) → count_of label ≡ 1
+    one None none = absurd cc
+    one (Some l) some = refl
+
+no_fewer : (r : Running) (m : Moved) → labels_in r.events ≤ labels_in (advanced r m).events
+no_fewer r Halts = omega arith
+no_fewer r Reserved = omega arith
+no_fewer r (Goes e s) = let more = labels_in-advanced r e in omega arith
+
+halt_stays : (r : Running) (m : Moved) → IsTrue (has_halted m) → advanced r m ≡ r
+halt_stays r Halts over = refl
+halt_stays r Reserved over = absurd cc
+halt_stays r (Goes e s) over = absurd cc
+
+not_both : (m : Moved) → IsTrue (passes_label m) → IsTrue (has_halted m) → ⊥
+not_both Halts due over = cc
+not_both Reserved due over = cc
+not_both (Goes e s) due over = cc
+
+pub object_stops_once : (code labels : List ℕ) → StopsOnce (object code labels)
+object_stops_once code labels = record {
+  label = λ r due. label_passed r (step code labels r.state) due;
+  no_fewer = λ r. no_fewer r (step code labels r.state);
+  ended_stays = λ r over. halt_stays r (step code labels r.state) over;
+  not_both = λ r due over. not_both (step code labels r.state) due over;
+}
+
+pub object_arrives_once : (code labels : List ℕ) → ArrivesOnce (object code labels) cycles_of_run
+object_arrives_once code labels = arrives_once (object code labels) (object_stops_once code labels) cycles_of_run
