@@ -1,12 +1,6 @@
-<<<<<<< HEAD
--- The operands of instructions: the numbers by which an opcode names its register or page, and
--- where a jump leads (Intel, MCS-51 instruction set).
-use Rattle.std.specs.Prelude.{ℕ, ◌+◌, ◌*◌, ◌/◌, ◌%◌, [], ◌∷◌, get_or, nat_lt, if◌then◌else◌}
-=======
 -- The operands of instructions (Intel, MCS-51 instruction set): the numbers by which an opcode names
 -- its register or page, where a jump leads, and the operands of assembler text as a list.
 use Rattle.std.specs.Prelude.{ℕ, ◌+◌, ◌*◌, ◌/◌, ◌%◌, List, [], ◌∷◌, get_or, nat_lt, if◌then◌else◌}
->>>>>>> 8ee37c5056a5293e98fa5f6a5bc7f75457a9bafc
 use Rattle.mcs51_isa.specs.declared.operands.Reg.{Reg}
 use Rattle.mcs51_isa.specs.declared.operands.Reg.TheVariants.{R0, R1, R2, R3, R4, R5, R6, R7}
 use Rattle.mcs51_isa.specs.declared.operands.Ind.{Ind}
@@ -14,12 +8,9 @@ use Rattle.mcs51_isa.specs.declared.operands.Ind.TheVariants.{At0, At1}
 use Rattle.mcs51_isa.specs.declared.operands.Page.{Page}
 use Rattle.mcs51_isa.specs.declared.operands.Page.TheVariants.{Page0, Page1, Page2, Page3, Page4, Page5, Page6, Page7}
 use Rattle.mcs51_isa.specs.declared.operands.Addr11.{Addr11}
-<<<<<<< HEAD
-=======
 use Rattle.mcs51_isa.specs.declared.assembly.Operand.{Operand}
 use Rattle.mcs51_isa.specs.declared.assembly.OperandList.{OperandList}
 use Rattle.mcs51_isa.specs.declared.assembly.OperandList.TheVariants.{Nothing, One, Two, Three}
->>>>>>> 8ee37c5056a5293e98fa5f6a5bc7f75457a9bafc
 
 -- the number of a register, and the register with this number
 abbrev pub reg_number : Reg → ℕ
@@ -68,12 +59,9 @@ page_target next a = next / 2048 * 2048 + page_number a.page * 256 + a.low
 -- where a relative jump leads: from 128 addresses before the next instruction to 127 behind it
 abbrev pub relative_target : ℕ → ℕ → ℕ
 relative_target next offset = (next + (if nat_lt offset 0x80 then offset else offset + 0xFF00)) % 65536
-<<<<<<< HEAD
-=======
 
 abbrev pub operand_list : OperandList → List Operand
 operand_list Nothing = []
 operand_list (One x) = x ∷ []
 operand_list (Two x y) = x ∷ y ∷ []
 operand_list (Three x y z) = x ∷ y ∷ z ∷ []
->>>>>>> 8ee37c5056a5293e98fa5f6a5bc7f75457a9bafc

@@ -1,14 +1,6 @@
 //! The instruction set of the MCS-51: instructions, their bytes, cycles and assembler text.
 #![tactic(auto)]
 
-<<<<<<< HEAD
-pub mod decoding;
-pub mod encoding;
-pub mod instr;
-mod opcodes;
-pub mod operands;
-pub mod targets;
-=======
 pub mod assembly;
 pub mod decoding;
 pub mod encoding;
@@ -21,7 +13,6 @@ pub mod operands;
 pub mod targets;
 #[cfg(test)]
 mod tests;
->>>>>>> 8ee37c5056a5293e98fa5f6a5bc7f75457a9bafc
 pub mod timing;
 
 pub use decoding::decode;
@@ -30,10 +21,7 @@ pub use instr::{
     Adjustment, Arith, BitChange, BitTest, CarryOp, FlagTest, Instr, Logic, LongJump, MulDiv,
     ReturnKind, Rotate, StackOp, Step, TableBase, Transfer, Whole,
 };
-<<<<<<< HEAD
-=======
 pub use listing::list_line;
->>>>>>> 8ee37c5056a5293e98fa5f6a5bc7f75457a9bafc
 pub use operands::{Addr11, Ind, Page, Reg};
 pub use targets::relative_target;
 pub use timing::cycles;

@@ -8,11 +8,7 @@ use crate::instr::{
 
 impl LongJump {
     ghost use Rattle.std.specs.Prelude.{◌≡◌};
-<<<<<<< HEAD
-    ghost use Rattle.mcs51_isa.specs.Opcodes.{long_jump_opcode};
-=======
     ghost use Rattle.mcs51_isa.specs.Operators.{long_jump_opcode};
->>>>>>> 8ee37c5056a5293e98fa5f6a5bc7f75457a9bafc
 
     pub(crate) fn opcode(self) -> u8
         ensures { result ≡ long_jump_opcode self }
@@ -26,11 +22,7 @@ impl LongJump {
 
 impl ReturnKind {
     ghost use Rattle.std.specs.Prelude.{◌≡◌};
-<<<<<<< HEAD
-    ghost use Rattle.mcs51_isa.specs.Opcodes.{return_opcode};
-=======
     ghost use Rattle.mcs51_isa.specs.Operators.{return_opcode};
->>>>>>> 8ee37c5056a5293e98fa5f6a5bc7f75457a9bafc
 
     pub(crate) fn opcode(self) -> u8
         ensures { result ≡ return_opcode self }
@@ -44,11 +36,7 @@ impl ReturnKind {
 
 impl Rotate {
     ghost use Rattle.std.specs.Prelude.{◌≡◌};
-<<<<<<< HEAD
-    ghost use Rattle.mcs51_isa.specs.Opcodes.{rotate_opcode};
-=======
     ghost use Rattle.mcs51_isa.specs.Operators.{rotate_opcode};
->>>>>>> 8ee37c5056a5293e98fa5f6a5bc7f75457a9bafc
 
     pub(crate) fn opcode(self) -> u8
         ensures { result ≡ rotate_opcode self }
@@ -64,11 +52,7 @@ impl Rotate {
 
 impl Step {
     ghost use Rattle.std.specs.Prelude.{◌≡◌, ◌≤◌};
-<<<<<<< HEAD
-    ghost use Rattle.mcs51_isa.specs.Opcodes.{step_row};
-=======
     ghost use Rattle.mcs51_isa.specs.Operators.{step_row};
->>>>>>> 8ee37c5056a5293e98fa5f6a5bc7f75457a9bafc
 
     pub(crate) fn row(self) -> u8
         ensures value { result ≡ step_row self }
@@ -83,11 +67,7 @@ impl Step {
 
 impl BitTest {
     ghost use Rattle.std.specs.Prelude.{◌≡◌};
-<<<<<<< HEAD
-    ghost use Rattle.mcs51_isa.specs.Opcodes.{bit_test_opcode};
-=======
     ghost use Rattle.mcs51_isa.specs.Operators.{bit_test_opcode};
->>>>>>> 8ee37c5056a5293e98fa5f6a5bc7f75457a9bafc
 
     pub(crate) fn opcode(self) -> u8
         ensures { result ≡ bit_test_opcode self }
@@ -102,11 +82,7 @@ impl BitTest {
 
 impl FlagTest {
     ghost use Rattle.std.specs.Prelude.{◌≡◌};
-<<<<<<< HEAD
-    ghost use Rattle.mcs51_isa.specs.Opcodes.{flag_test_opcode};
-=======
     ghost use Rattle.mcs51_isa.specs.Operators.{flag_test_opcode};
->>>>>>> 8ee37c5056a5293e98fa5f6a5bc7f75457a9bafc
 
     pub(crate) fn opcode(self) -> u8
         ensures { result ≡ flag_test_opcode self }
@@ -122,11 +98,7 @@ impl FlagTest {
 
 impl Arith {
     ghost use Rattle.std.specs.Prelude.{◌≡◌, ◌≤◌};
-<<<<<<< HEAD
-    ghost use Rattle.mcs51_isa.specs.Opcodes.{arith_row};
-=======
     ghost use Rattle.mcs51_isa.specs.Operators.{arith_row};
->>>>>>> 8ee37c5056a5293e98fa5f6a5bc7f75457a9bafc
 
     pub(crate) fn row(self) -> u8
         ensures value { result ≡ arith_row self }
@@ -142,11 +114,7 @@ impl Arith {
 
 impl Logic {
     ghost use Rattle.std.specs.Prelude.{◌≡◌, ◌≤◌};
-<<<<<<< HEAD
-    ghost use Rattle.mcs51_isa.specs.Opcodes.{logic_row};
-=======
     ghost use Rattle.mcs51_isa.specs.Operators.{logic_row};
->>>>>>> 8ee37c5056a5293e98fa5f6a5bc7f75457a9bafc
 
     pub(crate) fn row(self) -> u8
         ensures value { result ≡ logic_row self }
@@ -162,11 +130,7 @@ impl Logic {
 
 impl CarryOp {
     ghost use Rattle.std.specs.Prelude.{◌≡◌};
-<<<<<<< HEAD
-    ghost use Rattle.mcs51_isa.specs.Opcodes.{carry_opcode};
-=======
     ghost use Rattle.mcs51_isa.specs.Operators.{carry_opcode};
->>>>>>> 8ee37c5056a5293e98fa5f6a5bc7f75457a9bafc
 
     pub(crate) fn opcode(self) -> u8
         ensures { result ≡ carry_opcode self }
@@ -182,11 +146,7 @@ impl CarryOp {
 
 impl TableBase {
     ghost use Rattle.std.specs.Prelude.{◌≡◌};
-<<<<<<< HEAD
-    ghost use Rattle.mcs51_isa.specs.Opcodes.{table_base_opcode};
-=======
     ghost use Rattle.mcs51_isa.specs.Operators.{table_base_opcode};
->>>>>>> 8ee37c5056a5293e98fa5f6a5bc7f75457a9bafc
 
     pub(crate) fn opcode(self) -> u8
         ensures { result ≡ table_base_opcode self }
@@ -200,11 +160,7 @@ impl TableBase {
 
 impl MulDiv {
     ghost use Rattle.std.specs.Prelude.{◌≡◌};
-<<<<<<< HEAD
-    ghost use Rattle.mcs51_isa.specs.Opcodes.{mul_div_opcode};
-=======
     ghost use Rattle.mcs51_isa.specs.Operators.{mul_div_opcode};
->>>>>>> 8ee37c5056a5293e98fa5f6a5bc7f75457a9bafc
 
     pub(crate) fn opcode(self) -> u8
         ensures { result ≡ mul_div_opcode self }
@@ -218,11 +174,7 @@ impl MulDiv {
 
 impl BitChange {
     ghost use Rattle.std.specs.Prelude.{◌≡◌, ◌≤◌};
-<<<<<<< HEAD
-    ghost use Rattle.mcs51_isa.specs.Opcodes.{change_row};
-=======
     ghost use Rattle.mcs51_isa.specs.Operators.{change_row};
->>>>>>> 8ee37c5056a5293e98fa5f6a5bc7f75457a9bafc
 
     pub(crate) fn row(self) -> u8
         ensures value { result ≡ change_row self }
@@ -238,11 +190,7 @@ impl BitChange {
 
 impl StackOp {
     ghost use Rattle.std.specs.Prelude.{◌≡◌};
-<<<<<<< HEAD
-    ghost use Rattle.mcs51_isa.specs.Opcodes.{stack_opcode};
-=======
     ghost use Rattle.mcs51_isa.specs.Operators.{stack_opcode};
->>>>>>> 8ee37c5056a5293e98fa5f6a5bc7f75457a9bafc
 
     pub(crate) fn opcode(self) -> u8
         ensures { result ≡ stack_opcode self }
@@ -256,11 +204,7 @@ impl StackOp {
 
 impl Adjustment {
     ghost use Rattle.std.specs.Prelude.{◌≡◌};
-<<<<<<< HEAD
-    ghost use Rattle.mcs51_isa.specs.Opcodes.{adjustment_opcode};
-=======
     ghost use Rattle.mcs51_isa.specs.Operators.{adjustment_opcode};
->>>>>>> 8ee37c5056a5293e98fa5f6a5bc7f75457a9bafc
 
     pub(crate) fn opcode(self) -> u8
         ensures { result ≡ adjustment_opcode self }
@@ -274,11 +218,7 @@ impl Adjustment {
 
 impl Transfer {
     ghost use Rattle.std.specs.Prelude.{◌≡◌, ◌≤◌};
-<<<<<<< HEAD
-    ghost use Rattle.mcs51_isa.specs.Opcodes.{transfer_row};
-=======
     ghost use Rattle.mcs51_isa.specs.Operators.{transfer_row};
->>>>>>> 8ee37c5056a5293e98fa5f6a5bc7f75457a9bafc
 
     pub(crate) fn row(self) -> u8
         ensures value { result ≡ transfer_row self }
@@ -293,11 +233,7 @@ impl Transfer {
 
 impl Whole {
     ghost use Rattle.std.specs.Prelude.{◌≡◌};
-<<<<<<< HEAD
-    ghost use Rattle.mcs51_isa.specs.Opcodes.{whole_opcode};
-=======
     ghost use Rattle.mcs51_isa.specs.Operators.{whole_opcode};
->>>>>>> 8ee37c5056a5293e98fa5f6a5bc7f75457a9bafc
 
     pub(crate) fn opcode(self) -> u8
         ensures { result ≡ whole_opcode self }

@@ -49,12 +49,8 @@ impl Reg {
     /// The register with this number, which is below 8.
     pub fn of(number: u8) -> Reg
         requires { number < 8 }
-<<<<<<< HEAD
-        ensures { result ≡ reg_of number }
-=======
         ensures value { result ≡ reg_of number }
         ensures number { reg_number result ≡ number }
->>>>>>> 8ee37c5056a5293e98fa5f6a5bc7f75457a9bafc
     {
         match number {
             0 => Reg::R0,
@@ -93,12 +89,8 @@ impl Ind {
     /// The indirect register with this number, which is below 2.
     pub fn of(number: u8) -> Ind
         requires { number < 2 }
-<<<<<<< HEAD
-        ensures { result ≡ ind_of number }
-=======
         ensures value { result ≡ ind_of number }
         ensures number { ind_number result ≡ number }
->>>>>>> 8ee37c5056a5293e98fa5f6a5bc7f75457a9bafc
     {
         match number {
             0 => Ind::At0,
@@ -125,12 +117,8 @@ impl Page {
     /// The page with this number, which is below 8.
     pub fn of(number: u8) -> Page
         requires { number < 8 }
-<<<<<<< HEAD
-        ensures { result ≡ page_of number }
-=======
         ensures value { result ≡ page_of number }
         ensures number { page_number result ≡ number }
->>>>>>> 8ee37c5056a5293e98fa5f6a5bc7f75457a9bafc
     {
         match number {
             0 => Page::Page0,
@@ -163,22 +151,14 @@ impl Page {
 }
 
 impl Addr11 {
-<<<<<<< HEAD
-    ghost use Rattle.std.specs.Prelude.{◌≡◌, ◌<◌};
-=======
     ghost use Rattle.std.specs.Prelude.{◌≡◌, ℕ, ◌/◌};
->>>>>>> 8ee37c5056a5293e98fa5f6a5bc7f75457a9bafc
     ghost use Rattle.mcs51_isa.specs.Operands.{addr11_of, page_target};
 
     /// The low 11 bits of an address.
     pub fn of(address: u16) -> Addr11
-<<<<<<< HEAD
-        ensures { result ≡ addr11_of address }
-=======
         ensures value { result ≡ addr11_of address }
         // AJMP and ACALL lead to the address from everywhere in its 2,048 bytes
         ensures target { (next : ℕ) → next / 2048 ≡ address / 2048 → page_target next result ≡ address }
->>>>>>> 8ee37c5056a5293e98fa5f6a5bc7f75457a9bafc
     {
         Addr11 {
             page: Page::of((address / 256 % 8) as u8),

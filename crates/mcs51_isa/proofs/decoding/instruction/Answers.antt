@@ -38,9 +38,5 @@ pub returns-in_default : goal.returns-in_default
 unfolding decode_of
 returns-in_default c =
     let h : 8 ≤ c.args.opcode % 16 = omega arith in
-<<<<<<< HEAD
-    let e = c.column_register.ensures ∙ ap (λ n. get_or (column_register n) (c.args.opcode / 16) reserved c.args.first c.args.second) c.of.ensures in
-=======
     let e = c.column_register.ensures ∙ ap (λ n. get_or (column_register n) (c.args.opcode / 16) reserved c.args.first c.args.second) c.of.ensures.value in
->>>>>>> 8ee37c5056a5293e98fa5f6a5bc7f75457a9bafc
     rw (le-leb 8 (c.args.opcode % 16) h) e
