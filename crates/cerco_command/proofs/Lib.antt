@@ -1,4 +1,5 @@
 mod WordLists
 pub mod PortTexts
 pub mod PortCosts
+pub mod PortCode
 mod Promise

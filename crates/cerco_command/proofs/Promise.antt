@@ -21,14 +21,11 @@ use Rattle.sim51.specs.State.{Core, State, reset, reset_core}
 use Rattle.sim51.specs.Locations.{called_from, top, popped}
 use Rattle.sim51.specs.Step.{Goes, instr_at, size, step, made, label_at, halts}
 use Rattle.sim51.specs.Runs.{Running, object, cycles_of_run, advanced, passes_label, has_halted}
+use Rattle.sim51.specs.Placed.{Stands, code_of_instrs}
 use Rattle.sim51.proofs.Steps.{step_goes, step_halts}
+use Rattle.sim51.proofs.Placed.{instrs_there}
 use Rattle.cerco_command.specs.PortPrograms.{meaning, writes}
-use Rattle.cerco_command.specs.PortObjects.{instructions, bytes_of, write, body, labels, costs}
-
--- these instructions stand one behind the other from this address on
-abbrev pub Stands : List ℕ → ℕ → List Instr → Type 0
-Stands code a [] = Unit {0}
-Stands code a (i ∷ is) = (instr_at code a ≡ Some i) × (a + size i ≤ 65536) × Stands code (a + size i) is
+use Rattle.cerco_command.specs.PortObjects.{instructions, write, body, labels, costs}
 
 no_label : (a : ℕ) → 9 ≤ a → label_at labels a ≡ None
 no_label a h = grind (arith, nat_tests)

@@ -1,11 +1,11 @@
 -- The object of a program of port writes (Intel, MCS-51 instruction set), and what it costs.
 use Rattle.std.specs.Prelude.{ℕ, ◌+◌, List, [], ◌∷◌, ◌++◌, map, sum_by}
-use Rattle.std.specs.List.{flat_map}
 use Rattle.mcs51_isa.specs.declared.instr.Instr.{Instr}
 use Rattle.mcs51_isa.specs.declared.instr.Instr.TheVariants.{Nop, Long, Return, Sjmp, MovDirectImmediate}
 use Rattle.mcs51_isa.specs.declared.instr.LongJump.TheVariants.{Lcall}
 use Rattle.mcs51_isa.specs.declared.instr.ReturnKind.TheVariants.{Ret}
-use Rattle.mcs51_isa.specs.Table.{encode_of, cycles_of}
+use Rattle.mcs51_isa.specs.Table.{cycles_of}
+use Rattle.sim51.specs.Placed.{code_of_instrs}
 use Rattle.clight_syntax.specs.Annotations.{Costs}
 use Rattle.clight_syntax.specs.declared.points.Point.{Point}
 use Rattle.clight_syntax.specs.declared.points.Piece.TheVariants.{Start, After}
@@ -30,9 +30,9 @@ body values = Nop ∷ (map write values ++ Return Ret ∷ [])
 abbrev pub instructions : List ℕ → List Instr
 instructions values = start ++ (halt ++ body values)
 
--- their bytes
-abbrev pub bytes_of : List Instr → List ℕ
-bytes_of = flat_map encode_of
+-- its bytes
+abbrev pub code : List ℕ → List ℕ
+code values = code_of_instrs (instructions values)
 
 -- the address of label 0
 abbrev pub labels : List ℕ

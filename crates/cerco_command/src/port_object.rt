@@ -1,8 +1,9 @@
 //! Compiles the programs that do nothing but write numbers to port 1.
 ghost use Rattle.std.specs.Prelude.{◌≡◌, ◌++◌, ◌<◌, ◌^◌, ◌∷◌, [], length, OnOk, IfOk};
-ghost use Rattle.cerco_command.specs.PortObjects.{instructions, bytes_of, costs, cost_of, labels};
+ghost use Rattle.cerco_command.specs.PortObjects.{code, costs, cost_of, labels};
 ghost use Rattle.cerco_command.specs.PortObjects as spec;
 ghost use Rattle.mcs51_isa.specs.Table.{encode_of};
+ghost use Rattle.sim51.specs.Placed.{code_of_instrs};
 
 use cerco_base::{Code, LabelList, NoMemory};
 use clight_syntax::PortWrites;
@@ -48,7 +49,7 @@ fn add(code: &mut Code, instr: Instr) -> Result<(), NoMemory>
 }
 
 fn add_start(code: &mut Code) -> Result<(), NoMemory>
-    ensures { OnOk result (code.new ≡ code.old ++ bytes_of (spec.start ++ spec.halt)) }
+    ensures { OnOk result (code.new ≡ code.old ++ code_of_instrs (spec.start ++ spec.halt)) }
 {
     add(code, SET_STACK)?;
     add(code, CALL_MAIN)?;
@@ -56,7 +57,7 @@ fn add_start(code: &mut Code) -> Result<(), NoMemory>
 }
 
 fn add_main(code: &mut Code, writes: &PortWrites) -> Result<(), NoMemory>
-    ensures { OnOk result (code.new ≡ code.old ++ bytes_of (spec.body writes.now)) }
+    ensures { OnOk result (code.new ≡ code.old ++ code_of_instrs (spec.body writes.now)) }
 {
     add(code, Instr::Nop)?;
     for value in writes.as_slice() {
@@ -80,7 +81,7 @@ fn main_cost(writes: &PortWrites) -> u32
 /// The object of a program of port writes.
 pub fn compile(alloc: Global, writes: &PortWrites) -> Result<PortObject, NoMemory>
     requires { length writes.now < 2 ^ 16 }
-    ensures code { IfOk result (λ o. o.code ≡ bytes_of (instructions writes.now)) }
+    ensures code { IfOk result (λ o. o.code ≡ code writes.now) }
     ensures labels { IfOk result (λ o. o.labels ≡ labels) }
     ensures start_cost { IfOk result (λ o. o.start_cost ≡ (costs writes.now).start) }
     ensures main_cost { IfOk result (λ o. o.main_cost ∷ [] ≡ (costs writes.now).labels) }
