@@ -4,7 +4,13 @@ use Rattle.std.specs.Result.{IsErrAnd}
 use Rattle.cerco_base.specs.States.{SinkState}
 use Rattle.cerco_base.specs.Calls.{PutsText}
 use Rattle.cerco_base.specs.declared.faults.IoFault.{IoFault}
-use Rattle.cerco_base.proofs.Putting.{SoFar, keeps_on, adds_on, puts_two, puts_first}
+use Rattle.cerco_base.proofs.Putting.{SoFar, begun, keeps_on, adds_on, puts_two, puts_first}
+
+-- nothing is put yet of a text that is made of pieces
+pub begun_as : (s : SinkState) (text pieces : List ℕ) → text ≡ pieces → SoFar s s text pieces
+begun_as s text pieces e =
+    let P : List ℕ → Type 0 = λ rest. SoFar s s text rest in
+    subst P e (begun s text)
 
 -- what was put of a text is a text that was put
 front_put : (s t : SinkState) (text rest : List ℕ) (a : SoFar s t text rest) → PutsText {T = Unit {0}} s t a.front (Ok tt)

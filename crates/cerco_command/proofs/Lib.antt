@@ -1,5 +1,9 @@
 mod WordLists
-pub mod PortTexts
-pub mod PortCosts
-pub mod PortCode
+mod PortTexts
+mod PortCosts
+mod PortCode
+mod PortBounds
 mod Promise
+mod Compiled
+mod Writing
+mod Built

@@ -1,6 +1,6 @@
 -- Which words of the command line are which command. (The compiler's own command line; POSIX, Utility Syntax Guidelines,
 -- keeps words that begin with `-` for options, of which there are none.)
-use Rattle.std.specs.Prelude.{ℕ, List, [], ◌∷◌, Bool, false, not, cond, ◌&&◌, Option, Some, None, option_map, codes, bytes_eq, string_bytes, nat_eq}
+use Rattle.std.specs.Prelude.{ℕ, List, [], ◌∷◌, Bool, false, not, cond, ◌&&◌, Option, Some, None, option_map, codes, bytes_eq, string_bytes, nat_eq, IsTrue}
 use Rattle.cerco_command.specs.declared.words.BuildNames.{BuildNames}
 use Rattle.cerco_command.specs.declared.words.Command.{Command}
 use Rattle.cerco_command.specs.declared.words.Command.TheVariants.{Build}
@@ -24,6 +24,10 @@ pub data Request : Type 0 where
 abbrev pub all_differ : List ℕ → List ℕ → List ℕ → List ℕ → Bool
 all_differ a b c d = not (bytes_eq a b) && (not (bytes_eq a c) && (not (bytes_eq a d) && (not (bytes_eq b c) && (not (bytes_eq b d) && not (bytes_eq c d)))))
 
+-- the four files have different names
+abbrev pub HaveDifferentNames : BuildFiles → Type 0
+HaveDifferentNames files = IsTrue (all_differ files.source files.hex files.map files.annotated)
+
 -- `build` and four different names
 abbrev pub is_build : List ℕ → List ℕ → List ℕ → List ℕ → List ℕ → Bool
 is_build word source hex map annotated =
@@ -37,6 +41,10 @@ build_of words = None
 -- the request that the words are, none where they are no command
 abbrev pub request_of : List (List ℕ) → Option Request
 request_of words = option_map Builds (build_of words)
+
+-- the names that a request gives to different files differ
+abbrev pub NamesDiffer : Request → Type 0
+NamesDiffer (Builds files) = HaveDifferentNames files
 
 -- the same names as texts
 abbrev pub files_of : BuildNames → BuildFiles

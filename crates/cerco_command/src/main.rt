@@ -1,9 +1,70 @@
 //! `cerco`: a C compiler for the MCS-51 whose running costs are exact.
 #![tactic(auto)]
 
+ghost use Rattle.std.specs.Prelude.{map, string_bytes, [], Some};
+ghost use Rattle.cerco_command.specs.Words.{request_in, request_of, NamesDiffer};
+ghost use Rattle.cerco_command.specs.Answers.{Answers};
+ghost use Rattle.cerco_command.specs.Top.{Means};
+
+pub mod building;
 pub mod port_object;
 pub mod port_program;
 pub mod status;
+#[cfg(test)]
+mod tests;
 pub mod words;
 
-fn main() {}
+use building::build;
+use cerco_base::{Files, HostFiles, HostOut, Sink};
+use status::Status;
+use std::alloc::Global;
+use std::env;
+use std::io::ErrorKind;
+use std::process::ExitCode;
+use words::{Command, WordsFault, read_words};
+
+// Carries out a command.
+fn obey<F: Files>(alloc: Global, command: &Command, files: &mut F) -> Status
+    requires { NamesDiffer (request_in command.now) }
+    ensures { Means (Some (request_in command.now)) (F.state files.old) (F.state files.new) result [] }
+{
+    match command {
+        Command::Build(names) => build(alloc, names, files),
+    }
+}
+
+// Carries out what the words ask for.
+fn carry_out<F: Files>(alloc: Global, words: &[String], files: &mut F) -> Status
+    ensures { Means (request_of (map string_bytes words.now)) (F.state files.old) (F.state files.new) result [] }
+{
+    match read_words(alloc, words) {
+        Ok(command) => obey(alloc, &command, files),
+        Err(WordsFault::Usage) => Status::Usage,
+        Err(WordsFault::OutOfMemory) => Status::NoMemory,
+    }
+}
+
+/// The whole program: its words after the program's name, its files and its output. The result is the exit status.
+pub fn cerco<F: Files, O: Sink>(alloc: Global, words: &[String], files: &mut F, out: &mut O) -> u8
+    ensures { Answers (Means (request_of (map string_bytes words.now)) (F.state files.old) (F.state files.new)) (O.state out.old) (O.state out.new) result }
+{
+    carry_out(alloc, words, files).code()
+}
+
+fn main(rt: HostRuntime) -> ExitCode {
+    let mut given = match env::args(&rt) {
+        Ok(words) => words,
+        Err(error) if error.kind() == ErrorKind::InvalidData => return ExitCode::from(2),
+        Err(_) => return ExitCode::from(9),
+    };
+    let _ = given.next();
+    let mut words = Vec::new(rt.alloc());
+    for word in given {
+        if words.push(word).is_err() {
+            return ExitCode::from(9);
+        }
+    }
+    let mut files = HostFiles::new(rt.alloc(), rt);
+    let mut out = HostOut::new(rt);
+    ExitCode::from(cerco(rt.alloc(), &words, &mut files, &mut out))
+}

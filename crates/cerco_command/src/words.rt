@@ -1,6 +1,6 @@
 //! The words of the command line.
 ghost use Rattle.std.specs.Prelude.{◌≡◌, IfOk, IfErr, None, Some, string_bytes, map, option_map};
-ghost use Rattle.cerco_command.specs.Words.{is_name, all_differ, is_build, build_of, request_of, request_in, files_of};
+ghost use Rattle.cerco_command.specs.Words.{is_name, all_differ, is_build, build_of, request_of, request_in, files_of, NamesDiffer};
 ghost use Rattle.cerco_command.specs.declared.words.WordsFault.TheVariants.{Usage};
 
 use std::alloc::{AllocError, Global};
@@ -84,6 +84,7 @@ fn read_build(alloc: Global, words: &[String]) -> Result<Option<BuildNames>, All
 /// The command that the words after the program's name are.
 pub fn read_words(alloc: Global, words: &[String]) -> Result<Command, WordsFault>
     ensures command { IfOk result (λ command. Some (request_in command) ≡ request_of (map string_bytes words.now)) }
+    ensures names { IfOk result (λ command. NamesDiffer (request_in command)) }
     ensures usage { IfErr result (λ fault. fault ≡ Usage → request_of (map string_bytes words.now) ≡ None) }
 {
     match read_build(alloc, words) {

@@ -1,0 +1,79 @@
+-- What `build` promises. (The compiler's own; the headline is the correctness of a cost annotating compiler as in CerCo,
+-- deliverable 2.1.)
+use Rattle.std.specs.Prelude.{◌≡◌, ℕ, List, [], ◌∷◌, Option, Some, None, IsTrue, ◌⊎◌, false, bytes_eq}
+use Rattle.cerco_base.specs.Causes.{Rose}
+use Rattle.cerco_base.specs.States.{FilesState, SameFiles}
+use Rattle.cerco_base.specs.Headline.{Headline}
+use Rattle.clight_syntax.specs.Erasure.{erased}
+use Rattle.clight_syntax.specs.Numbers.{cost_at}
+use Rattle.object_hex.specs.HexText.{hex_text}
+use Rattle.object_hex.specs.MapText.{map_text}
+use Rattle.sim51.specs.Runs.{object, cycles_of_run}
+use Rattle.cerco_command.specs.Words.{BuildFiles}
+use Rattle.cerco_command.specs.PortPrograms.{IsPortProgram, IsNoPortProgram, meaning}
+use Rattle.cerco_command.specs.Answers.{NamedText, ArePartlyWritten}
+use Rattle.cerco_command.specs.declared.status.Status.{Status}
+use Rattle.cerco_command.specs.declared.status.Status.TheVariants.{Done, NoFile, Usage, Refused, FileFault, NoMemory}
+
+-- The headline. The source is a program, and the object does what the program means: for every port script and number n, after
+-- exactly as many cycles as the cost variable of the annotated source holds at its n-th stop, it has made exactly the labels,
+-- port readings and port writings of the meaning, and has ended exactly if the meaning has. The annotated source without its
+-- annotations is the source.
+pub record IsCompiled (source code labels annotated : List ℕ) : Type 0 where
+  pub values : List ℕ
+  pub program : IsPortProgram source values
+  pub headline : Headline (meaning values) (object code labels) cycles_of_run (cost_at annotated)
+  pub erases : erased annotated ≡ source
+
+-- the files that are written, in this order
+abbrev pub outputs : BuildFiles → List ℕ → List ℕ → List ℕ → List NamedText
+outputs files code labels annotated = (files.hex, hex_text code) ∷ (files.map, map_text labels) ∷ (files.annotated, annotated) ∷ []
+
+-- The source is compiled, the three outputs hold what it is compiled to, and every other name is as it was.
+pub record Builds (files : BuildFiles) (s t : FilesState) : Type 0 where
+  pub source : List ℕ
+  pub code : List ℕ
+  pub labels : List ℕ
+  pub annotated : List ℕ
+  pub read : s.file files.source ≡ Some source
+  pub compiled : IsCompiled source code labels annotated
+  pub hex_written : t.file files.hex ≡ Some (hex_text code)
+  pub map_written : t.file files.map ≡ Some (map_text labels)
+  pub annotated_written : t.file files.annotated ≡ Some annotated
+  pub others : (q : List ℕ) → bytes_eq files.hex q ≡ false → bytes_eq files.map q ≡ false → bytes_eq files.annotated q ≡ false → t.file q ≡ s.file q
+
+-- The source is compiled, and what it is compiled to is written in part.
+pub record PartlyBuilds (files : BuildFiles) (s t : FilesState) : Type 0 where
+  pub source : List ℕ
+  pub code : List ℕ
+  pub labels : List ℕ
+  pub annotated : List ℕ
+  pub read : s.file files.source ≡ Some source
+  pub compiled : IsCompiled source code labels annotated
+  pub written : ArePartlyWritten (outputs files code labels annotated) s t
+
+-- the source is no program
+pub record Refuses (files : BuildFiles) (s t : FilesState) : Type 0 where
+  pub source : List ℕ
+  pub read : s.file files.source ≡ Some source
+  pub no_program : IsNoPortProgram source
+  pub same : SameFiles s t
+
+-- one of the files that are written
+abbrev pub IsOutput : BuildFiles → List ℕ → Type 0
+IsOutput files name = (name ≡ files.hex) ⊎ (name ≡ files.map) ⊎ (name ≡ files.annotated)
+
+-- A call of the files failed. It was at the source, and no file has changed, or at an output of a source that is a program.
+abbrev pub Faults : BuildFiles → FilesState → FilesState → Type 0
+Faults files s t =
+    ((t.last_fault ≡ files.source) × (IsTrue s.known → SameFiles s t))
+    ⊎ (IsOutput files t.last_fault × (IsTrue s.known → PartlyBuilds files s t))
+
+-- What each status of `build` means, for files whose contents are known; it puts nothing to the output.
+abbrev pub BuildMeans : BuildFiles → FilesState → FilesState → Status → List ℕ → Type 0
+BuildMeans files s t Done line = (line ≡ []) × (IsTrue s.known → Builds files s t)
+BuildMeans files s t NoFile line = (line ≡ []) × (IsTrue s.known → (s.file files.source ≡ None) × SameFiles s t)
+BuildMeans files s t Usage line = ⊥
+BuildMeans files s t Refused line = (line ≡ []) × (IsTrue s.known → Refuses files s t)
+BuildMeans files s t FileFault line = (line ≡ []) × Rose s.faults t.faults × Faults files s t
+BuildMeans files s t NoMemory line = (line ≡ []) × (IsTrue s.known → SameFiles s t ⊎ PartlyBuilds files s t)

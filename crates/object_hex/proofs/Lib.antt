@@ -1,0 +1,4 @@
+mod Raised
+mod Lines
+mod Loops
+pub mod Examples
