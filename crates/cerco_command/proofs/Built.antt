@@ -51,7 +51,7 @@ different files h =
     record {
       map_hex = differ_back x m (not_true (bytes_eq x m) p₄.0);
       annotated_hex = differ_back x a (not_true (bytes_eq x a) p₅.0);
-      annotated_map = differ_back m a (not_true (bytes_eq m a) p₅.1)
+      annotated_map = differ_back m a (not_true (bytes_eq m a) p₅.1);
     }
 
 -- a source that is short enough was read whole
@@ -73,12 +73,15 @@ module _ (files : BuildFiles) (text : List ℕ) (s t u : FilesState) (later : s.
   part : (hex map annotated : List ℕ) → AreTexts text hex map annotated → (IsTrue t.known → ArePartlyWritten (named_texts files hex map annotated) t u) → IsTrue s.known → PartlyBuilds files s u
   part hex map annotated a p h =
       record {
-        source = text; code = a.code; labels = a.labels; annotated = annotated;
+        source = text;
+        code = a.code;
+        labels = a.labels;
+        annotated = annotated;
         read = read_source a.code a.labels annotated a.compiled h;
         compiled = a.compiled;
         written = subst (λ (x : List ℕ). ArePartlyWritten ((files.hex, x) ∷ (files.map, map_text a.labels) ∷ (files.annotated, annotated) ∷ []) s u) a.hex_is
-          (subst (λ (x : List ℕ). ArePartlyWritten ((files.hex, hex) ∷ (files.map, x) ∷ (files.annotated, annotated) ∷ []) s u) a.map_is
-          (partly_from (named_texts files hex map annotated) s t u (same h) (p (known h))))
+            (subst (λ (x : List ℕ). ArePartlyWritten ((files.hex, hex) ∷ (files.map, x) ∷ (files.annotated, annotated) ∷ []) s u) a.map_is
+            (partly_from (named_texts files hex map annotated) s t u (same h) (p (known h))));
       }
 
   all : Differ files → (hex map annotated : List ℕ) → AreTexts text hex map annotated → (IsTrue t.known → AreWritten (named_texts files hex map annotated) t u) → IsTrue s.known → Builds files s u
@@ -87,13 +90,16 @@ module _ (files : BuildFiles) (text : List ℕ) (s t u : FilesState) (later : s.
       let u₁ = p.0 in let u₂ = p.2.0 in let u₃ = p.2.2.0 in
       let first = p.1 in let second = p.2.1 in let third = p.2.2.1 in let last = p.2.2.2 in
       record {
-        source = text; code = a.code; labels = a.labels; annotated = annotated;
+        source = text;
+        code = a.code;
+        labels = a.labels;
+        annotated = annotated;
         read = read_source a.code a.labels annotated a.compiled h;
         compiled = a.compiled;
         hex_written = last files.hex ∙ (third.others files.hex d.annotated_hex ∙ (second.others files.hex d.map_hex ∙ (first.here ∙ ap Some a.hex_is)));
         map_written = last files.map ∙ (third.others files.map d.annotated_map ∙ (second.here ∙ ap Some a.map_is));
         annotated_written = last files.annotated ∙ third.here;
-        others = λ q n₁ n₂ n₃. last q ∙ (third.others q n₃ ∙ (second.others q n₂ ∙ first.others q n₁))
+        others = λ q n₁ n₂ n₃. last q ∙ (third.others q n₃ ∙ (second.others q n₂ ∙ first.others q n₁));
       }
 
   is_output : (hex map annotated : List ℕ) → IsNameOf u.last_fault (named_texts files hex map annotated) → IsOutput files u.last_fault

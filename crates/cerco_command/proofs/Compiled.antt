@@ -29,7 +29,7 @@ compiled source values text p erases said =
       values = values;
       program = p;
       headline = headline_holds (code values) values (stands source values p) text (said ∙ ap (λ c. 4 ∷ c ∷ []) (cost_of_body values));
-      erases = erases
+      erases = erases;
     }
 
 -- the texts that are made of a program are those of what it is compiled to
@@ -37,14 +37,14 @@ pub texts_made : (source values hex map text object addresses labelled : List �
 texts_made source values hex map text object addresses labelled pts start p object_is addresses_are start_is labelled_are points_are hex_is map_is text_is erases counts =
     let none = has_no_marker source values p in
     let said : numbers text ≡ flat_map (λ (point : Point). numbers_of (costs values) point.piece) points =
-      ap numbers text_is ∙ (counts none
-      ∙ (ap (λ (ps : List Point). flat_map (λ (point : Point). numbers_of (record { start = start; labels = labelled }) point.piece) ps) points_are
-      ∙ (ap (λ (s : ℕ). flat_map (λ (point : Point). numbers_of (record { start = s; labels = labelled }) point.piece) points) start_is
-      ∙ ap (λ (ls : List ℕ). flat_map (λ (point : Point). numbers_of (record { start = (costs values).start; labels = ls }) point.piece) points) labelled_are))) in
+    ap numbers text_is ∙ (counts none
+    ∙ (ap (λ (ps : List Point). flat_map (λ (point : Point). numbers_of (record { start = start; labels = labelled }) point.piece) ps) points_are
+    ∙ (ap (λ (s : ℕ). flat_map (λ (point : Point). numbers_of (record { start = s; labels = labelled }) point.piece) points) start_is
+    ∙ ap (λ (ls : List ℕ). flat_map (λ (point : Point). numbers_of (record { start = (costs values).start; labels = ls }) point.piece) points) labelled_are))) in
     record {
       code = code values;
       labels = labels;
       compiled = compiled source values text p (ap erased text_is ∙ erases none) said;
       hex_is = hex_is ∙ ap hex_text object_is;
-      map_is = map_is ∙ ap map_text addresses_are
+      map_is = map_is ∙ ap map_text addresses_are;
     }

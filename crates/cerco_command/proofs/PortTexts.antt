@@ -67,9 +67,9 @@ semicolons : (v w : ℕ) (a b : List ℕ) → v < 256 → w < 256 → decimal v 
 semicolons v w a b small little e =
     let size : length (decimal v) ≡ length (decimal w) = sym (first_semicolon v a small) ∙ (ap (position_or_len (λ c. c == 59)) e ∙ first_semicolon w b little) in
     let digits : decimal v ≡ decimal w =
-      sym (take-append_seam (decimal v) (59 ∷ a)) ∙ (ap (take (length (decimal v))) e ∙ (ap (λ n. take n (decimal w ++ 59 ∷ b)) size ∙ take-append_seam (decimal w) (59 ∷ b))) in
+    sym (take-append_seam (decimal v) (59 ∷ a)) ∙ (ap (take (length (decimal v))) e ∙ (ap (λ n. take n (decimal w ++ 59 ∷ b)) size ∙ take-append_seam (decimal w) (59 ∷ b))) in
     let rests : 59 ∷ a ≡ 59 ∷ b =
-      sym (drop-append_seam (decimal v) (59 ∷ a)) ∙ (ap (drop (length (decimal v))) e ∙ (ap (λ n. drop n (decimal w ++ 59 ∷ b)) size ∙ drop-append_seam (decimal w) (59 ∷ b))) in
+    sym (drop-append_seam (decimal v) (59 ∷ a)) ∙ (ap (drop (length (decimal v))) e ∙ (ap (λ n. drop n (decimal w ++ 59 ∷ b)) size ∙ drop-append_seam (decimal w) (59 ∷ b))) in
     (decimal_injective v w (omega arith) (omega arith) digits, ap (drop 1) rests)
 
 one_way : (v w : ℕ) (a b : List ℕ) → v < 256 → w < 256 → assignment_text v ++ a ≡ assignment_text w ++ b → (v ≡ w) × (a ≡ b)
@@ -83,7 +83,7 @@ none_written [] (w ∷ ws) rest a b e none open_text = none w (flat_map assignme
 none_written (v ∷ vs) [] rest a b e none open_text = absurd (true≢false (ap (λ (l : List ℕ). nat_eq (get_or l 0 0) 80) e))
 none_written (v ∷ vs) (w ∷ ws) rest a b e none open_text =
     let both = one_way v w (flat_map assignment_text vs ++ rest) (flat_map assignment_text ws ++ 125 ∷ []) (All-head (λ v. v < 256) v vs a) (All-head (λ v. v < 256) w ws b)
-      (sym (append_assoc (assignment_text v) (flat_map assignment_text vs) rest) ∙ (e ∙ append_assoc (assignment_text w) (flat_map assignment_text ws) (125 ∷ []))) in
+    (sym (append_assoc (assignment_text v) (flat_map assignment_text vs) rest) ∙ (e ∙ append_assoc (assignment_text w) (flat_map assignment_text ws) (125 ∷ []))) in
     none_written vs ws rest (All-tail (λ v. v < 256) v vs a) (All-tail (λ v. v < 256) w ws b) both.1 none open_text
 
 pub unequal : (xs ys : List ℕ) → true ≡ not (bytes_eq xs ys) → xs ≢ ys

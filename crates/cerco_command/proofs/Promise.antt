@@ -42,8 +42,8 @@ module _ (code : List ℕ) where
         state = record {
           core = record r.state.core { ports = slice_set r.state.core.ports 1 value };
           pc = r.state.pc + 3;
-          cycles = r.state.cycles + 2
-        }
+          cycles = r.state.cycles + 2;
+        };
       }
 
   writes_one : (value : ℕ) (r : Running) → 9 ≤ r.state.pc → r.state.pc + 3 < 65536 → instr_at code r.state.pc ≡ Some (write value) → Run (object code labels) 0 r (one_write value r)
@@ -51,9 +51,9 @@ module _ (code : List ℕ) where
       let goes = step_goes code labels r.state (write value) e refl in
       let next : (r.state.pc + 3) % 65536 ≡ r.state.pc + 3 = omega arith in
       on r (one_write value r)
-        (ap (advanced r) goes
-          ∙ (ap (λ (l : Option Label). advanced r (Goes (record { label = l; read = None; write = Some (P1, value) }) (record { core = record r.state.core { ports = slice_set r.state.core.ports 1 value }; pc = (r.state.pc + 3) % 65536; cycles = r.state.cycles + 2 }))) (no_label r.state.pc low)
-          ∙ ap (λ (p : ℕ). let q : Running = record { events = r.events ++ writes value ∷ []; state = record { core = record r.state.core { ports = slice_set r.state.core.ports 1 value }; pc = p; cycles = r.state.cycles + 2 } } in q) next))
+      (ap (advanced r) goes
+      ∙ (ap (λ (l : Option Label). advanced r (Goes (record { label = l; read = None; write = Some (P1, value) }) (record { core = record r.state.core { ports = slice_set r.state.core.ports 1 value }; pc = (r.state.pc + 3) % 65536; cycles = r.state.cycles + 2 }))) (no_label r.state.pc low)
+      ∙ ap (λ (p : ℕ). let q : Running = record { events = r.events ++ writes value ∷ []; state = record { core = record r.state.core { ports = slice_set r.state.core.ports 1 value }; pc = p; cycles = r.state.cycles + 2 } } in q) next))
 
   -- what a run of writes has come to
   record Wrote (vs : List ℕ) (r : Running) : Type 0 where
@@ -82,7 +82,10 @@ module _ (code : List ℕ) where
         run = joined (writes_one v r low high stands.0) rest.run;
         events = rest.events ∙ append_assoc r.events (writes v ∷ []) (map writes vs);
         cycles = omega arith;
-        iram = rest.iram; sp = rest.sp; low = rest.low; behind = rest.behind
+        iram = rest.iram;
+        sp = rest.sp;
+        low = rest.low;
+        behind = rest.behind;
       }
 
   module _ (values : List ℕ) (stands : Stands code 0 (instructions values)) where
@@ -126,13 +129,13 @@ module _ (code : List ℕ) where
         let core = r.state.core in
         let goes = step_goes code labels r.state (Return Ret) w.behind refl in
         let pc : 256 * slice_index core.iram core.sp + slice_index core.iram ((core.sp + 255) % 256) ≡ 6 =
-          ap (λ (ram : List ℕ). 256 * slice_index ram core.sp + slice_index ram ((core.sp + 255) % 256)) w.iram
-          ∙ ap (λ n. 256 * slice_index (core_at_main script).iram n + slice_index (core_at_main script).iram ((n + 255) % 256)) w.sp in
+        ap (λ (ram : List ℕ). 256 * slice_index ram core.sp + slice_index ram ((core.sp + 255) % 256)) w.iram
+        ∙ ap (λ n. 256 * slice_index (core_at_main script).iram n + slice_index (core_at_main script).iram ((n + 255) % 256)) w.sp in
         on r (returned r)
-          (ap (advanced r) goes
-            ∙ (ap (λ (l : Option Label). advanced r (Goes (record { label = l; read = None; write = None }) (record { core = popped (popped core); pc = 256 * slice_index core.iram core.sp + slice_index core.iram ((core.sp + 255) % 256); cycles = r.state.cycles + 2 }))) (no_label r.state.pc w.low)
-            ∙ (ap (λ (p : ℕ). let q : Running = record { events = r.events ++ []; state = record { core = popped (popped core); pc = p; cycles = r.state.cycles + 2 } } in q) pc
-            ∙ ap (λ (es : List Event). let q : Running = record { events = es; state = record { core = popped (popped core); pc = 6; cycles = r.state.cycles + 2 } } in q) (append-nil r.events))))
+        (ap (advanced r) goes
+        ∙ (ap (λ (l : Option Label). advanced r (Goes (record { label = l; read = None; write = None }) (record { core = popped (popped core); pc = 256 * slice_index core.iram core.sp + slice_index core.iram ((core.sp + 255) % 256); cycles = r.state.cycles + 2 }))) (no_label r.state.pc w.low)
+        ∙ (ap (λ (p : ℕ). let q : Running = record { events = r.events ++ []; state = record { core = popped (popped core); pc = p; cycles = r.state.cycles + 2 } } in q) pc
+        ∙ ap (λ (es : List Event). let q : Running = record { events = es; state = record { core = popped (popped core); pc = 6; cycles = r.state.cycles + 2 } } in q) (append-nil r.events))))
 
     to_end : (script : List ℕ) → Ends script
     to_end script =
@@ -143,7 +146,7 @@ module _ (code : List ℕ) where
           run = joined (joined (to_main script) (past_label script)) (joined w.run (returns script w));
           events = w.events;
           cycles = omega arith;
-          ended = ap has_halted (step_halts code labels (returned w.state).state (Sjmp 0xFE) stands.2.2.0 refl)
+          ended = ap has_halted (step_halts code labels (returned w.state).state (Sjmp 0xFE) stands.2.2.0 refl);
         }
 
     module _ (text : List ℕ) (said : numbers text ≡ 4 ∷ (3 + 2 * length values) ∷ []) where
@@ -172,7 +175,7 @@ module _ (code : List ℕ) where
             steps = k.0;
             stops = subst (λ s. StopsAt (object code labels) 0 s Stopped) (sym k.1) (due_at_main script, refl);
             made = ap (λ (s : Running). s.events) k.1;
-            took = ap cycles_of_run k.1 ∙ sym cost
+            took = ap cycles_of_run k.1 ∙ sym cost;
           }
       headline_holds script ok (suc n) =
           let e = to_end script in
@@ -183,7 +186,7 @@ module _ (code : List ℕ) where
             steps = k.0;
             stops = subst (λ s. StopsAt (object code labels) (suc n) s Ended) (sym k.1) (e.ended, few);
             made = ap (λ (s : Running). s.events) k.1 ∙ e.events;
-            took = ap cycles_of_run k.1 ∙ (e.cycles ∙ sym all_cost)
+            took = ap cycles_of_run k.1 ∙ (e.cycles ∙ sym all_cost);
           }
         where
           no_labels : (vs : List ℕ) → labels_in (map writes vs) ≡ 0

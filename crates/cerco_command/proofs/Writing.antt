@@ -16,15 +16,18 @@ written_first name text files s t u (Ok z) n x y e f a b =
     record {
       later = omega arith;
       whole = λ h. (t, subst (λ (m : List ℕ). Puts s t name m) f (subst (λ (m : List ℕ). Puts s t m x) e (a.whole h)), b.whole (a.stays_known h));
-      some = λ h. tt; rose = tt; named = tt
+      some = λ h. tt;
+      rose = tt;
+      named = tt;
     }
 written_first name text files s t u (Err fault) n x y e f a b =
     let l₁ = a.cause.later in let l₂ = b.later in
     record {
-      later = omega arith; whole = λ h. tt;
+      later = omega arith;
+      whole = λ h. tt;
       some = λ h. inr (inr (t, subst (λ (m : List ℕ). Puts s t name m) f (subst (λ (m : List ℕ). Puts s t m x) e (a.whole h)), b.some (a.stays_known h)));
       rose = λ h. rose_since s.faults t.faults u.faults l₁ (b.rose h);
-      named = λ h. inr (b.named h)
+      named = λ h. inr (b.named h);
     }
 
 -- the last text is written, or its writing fails
@@ -33,13 +36,17 @@ written_last name text s t (Ok z) n x e f a =
     record {
       later = a.cause.later;
       whole = λ h. (t, subst (λ (m : List ℕ). Puts s t name m) f (subst (λ (m : List ℕ). Puts s t m x) e (a.whole h)), λ q. refl);
-      some = λ h. tt; rose = tt; named = tt
+      some = λ h. tt;
+      rose = tt;
+      named = tt;
     }
 written_last name text s t (Err fault) n x e f a =
     record {
-      later = a.cause.later; whole = λ h. tt;
+      later = a.cause.later;
+      whole = λ h. tt;
       some = λ h. subst (λ (m : List ℕ). ArePartlyWritten ((name, m) ∷ []) s t) f (subst (λ (m : List ℕ). ArePartlyWritten ((m, x) ∷ []) s t) e (first (a.front h)));
-      rose = a.cause.rose; named = λ h. inl (a.cause.named h ∙ e)
+      rose = a.cause.rose;
+      named = λ h. inl (a.cause.named h ∙ e);
     }
   where
     first : SameFiles s t ⊎ PutsPrefix s t n x → ArePartlyWritten ((n, x) ∷ []) s t

@@ -20,8 +20,11 @@ const P1: u8 = 0x90;
 const MAIN: u16 = 8;
 
 const SET_STACK: Instr = Instr::MovDirectImmediate(SP, 0x7F);
+
 const CALL_MAIN: Instr = Instr::Long(LongJump::Lcall, MAIN);
+
 const HALT: Instr = Instr::Sjmp(0xFE);
+
 const RETURN: Instr = Instr::Return(ReturnKind::Ret);
 
 /// An object with its labels, and what it costs, in machine cycles.

@@ -5,9 +5,13 @@ use std::process::Abort;
 use std::test::Fail;
 
 const EMPTY: &[u8] = b"void main(void){}";
+
 const EMPTY_HEX: &[u8] = b":0A00000075817F12000880FE0022C7\n:00000001FF\n";
+
 const MAP: &[u8] = b"0 0008\n";
-const EMPTY_ANNOTATED: &[u8] = b"/*@*/unsigned long __cost=4;/*@*/void main(void){/*@*/__cost+=3;/*@*/}";
+
+const EMPTY_ANNOTATED: &[u8] =
+    b"/*@*/unsigned long __cost=4;/*@*/void main(void){/*@*/__cost+=3;/*@*/}";
 
 fn split(alloc: Global, text: &str) -> Result<Vec<String>, AllocError> {
     let mut words = Vec::new(alloc);
@@ -30,7 +34,12 @@ fn an_empty_main_is_built(rt: HostRuntime) -> Result<(), Fail> {
     let alloc = rt.alloc();
     let mut files = SoundFiles::new(alloc);
     files.place("a.c", EMPTY)?;
-    let status = cerco(alloc, &split(alloc, "build a.c a.hex a.map a.ann")?, &mut files, &mut SoundSink::new(alloc));
+    let status = cerco(
+        alloc,
+        &split(alloc, "build a.c a.hex a.map a.ann")?,
+        &mut files,
+        &mut SoundSink::new(alloc),
+    );
     assert_eq!(rt; status, 0);
     assert_eq!(rt; files.bytes("a.hex").unwrap_or(b""), EMPTY_HEX);
     assert_eq!(rt; files.bytes("a.map").unwrap_or(b""), MAP);
@@ -45,9 +54,15 @@ fn a_port_write_is_built(rt: HostRuntime) -> Result<(), Fail> {
     let mut files = MemoryFiles::new(alloc);
     files.place("a", b"void main(void){P1=5;}")?;
     assert_eq!(rt; run(&rt, alloc, &mut files, "build a h m n")?, 0);
-    assert_eq!(rt; files.bytes("h").unwrap_or(b""), b":0D00000075817F12000880FE0075900522BA\n:00000001FF\n".as_slice());
+    assert_eq!(rt;
+        files.bytes("h").unwrap_or(b""),
+        b":0D00000075817F12000880FE0075900522BA\n:00000001FF\n".as_slice()
+    );
     assert_eq!(rt; files.bytes("m").unwrap_or(b""), MAP);
-    assert_eq!(rt; files.bytes("n").unwrap_or(b""), b"/*@*/unsigned long __cost=4;/*@*/void main(void){/*@*/__cost+=5;/*@*/P1=5;}".as_slice());
+    assert_eq!(rt;
+        files.bytes("n").unwrap_or(b""),
+        b"/*@*/unsigned long __cost=4;/*@*/void main(void){/*@*/__cost+=5;/*@*/P1=5;}".as_slice()
+    );
     Ok(())
 }
 
@@ -113,7 +128,15 @@ fn faults_and_missing_files_are_named(rt: HostRuntime) -> Result<(), Fail> {
 #[test]
 fn other_words_are_no_command(rt: HostRuntime) -> Result<(), Fail> {
     let alloc = rt.alloc();
-    for words in &["", "build a b c", "build a b c d e", "build a b b c", "build -a b c d", "-h", "run a b c 5"] {
+    for words in &[
+        "",
+        "build a b c",
+        "build a b c d e",
+        "build a b b c",
+        "build -a b c d",
+        "-h",
+        "run a b c 5",
+    ] {
         let mut files = MemoryFiles::new(alloc);
         files.place("a", EMPTY)?;
         assert_eq!(rt; run(&rt, alloc, &mut files, words)?, 2, "{words}");

@@ -14,9 +14,9 @@ pub returns : goal.returns
 returns c =
     let o = c.in_ok-object in
     texts_made c.args.source.now c.args.writes.now c.write_hex.new.out.bytes.items c.write_map.new.out.bytes.items c.annotate.new.out.bytes.items
-      c.as_slice.result.now c.as_slice-2.result.now (o.object.main_cost ∷ []) c.in_ok-points.points o.object.start_cost
-      c.requires (c.as_slice.ensures ∙ o.ensures.code) (c.as_slice-2.ensures ∙ o.ensures.labels) o.ensures.start_cost o.ensures.main_cost c.in_ok-points.ensures
-      (collected (sound_sink_state c.new-hex.result) (sound_sink_state c.write_hex.new.out) _ c.write_hex.result refl c.new-hex.ensures (sym c.is_err.ensures.value ∙ c.if-is_err.false) c.write_hex.ensures)
-      (collected (sound_sink_state c.new-map.result) (sound_sink_state c.write_map.new.out) _ c.write_map.result refl c.new-map.ensures (sym c.is_err-2.ensures.value ∙ c.if-is_err-2.false) c.write_map.ensures)
-      (collected (sound_sink_state c.new-annotated.result) (sound_sink_state c.annotate.new.out) _ c.annotate.result refl c.new-annotated.ensures (sym c.is_err-3.ensures.value ∙ c.if-is_err-3.false) c.annotate.ensures.puts)
-      c.annotate.ensures.erases c.annotate.ensures.counts
+    c.as_slice.result.now c.as_slice-2.result.now (o.object.main_cost ∷ []) c.in_ok-points.points o.object.start_cost
+    c.requires (c.as_slice.ensures ∙ o.ensures.code) (c.as_slice-2.ensures ∙ o.ensures.labels) o.ensures.start_cost o.ensures.main_cost c.in_ok-points.ensures
+    (collected (sound_sink_state c.new-hex.result) (sound_sink_state c.write_hex.new.out) _ c.write_hex.result refl c.new-hex.ensures (sym c.is_err.ensures.value ∙ c.if-is_err.false) c.write_hex.ensures)
+    (collected (sound_sink_state c.new-map.result) (sound_sink_state c.write_map.new.out) _ c.write_map.result refl c.new-map.ensures (sym c.is_err-2.ensures.value ∙ c.if-is_err-2.false) c.write_map.ensures)
+    (collected (sound_sink_state c.new-annotated.result) (sound_sink_state c.annotate.new.out) _ c.annotate.result refl c.new-annotated.ensures (sym c.is_err-3.ensures.value ∙ c.if-is_err-3.false) c.annotate.ensures.puts)
+    c.annotate.ensures.erases c.annotate.ensures.counts

@@ -9,9 +9,9 @@ use Rattle.cerco_command.proofs.port_program.read_port_program.Goals as goal
 
 pub loop-value-init : goal.loop-value-init
 loop-value-init c = rw c.new-writes.ensures (record {
-    whole = strip_prefix_is Decides-eqb c.args.text.now (codes "void main(void){") (Some c.in-Some.rest) c.in-Some.ensures.cases;
-    bytes = All-nil (λ v. v < 256)
-  })
+  whole = strip_prefix_is Decides-eqb c.args.text.now (codes "void main(void){") (Some c.in-Some.rest) c.in-Some.ensures.cases;
+  bytes = All-nil (λ v. v < 256);
+})
 
 pub returns-then-ne : goal.returns-then-ne
 returns-then-ne c = λ values p.
