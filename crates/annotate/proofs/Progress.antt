@@ -3,8 +3,8 @@ use Rattle.std.proofs.Common.{◌≡◌, ℕ, ◌+◌, ◌-◌, ◌<◌, ◌≤�
 use Rattle.std.proofs.lemmas.List.{drop_more, drop_all, take_rest}
 use Rattle.cerco_base.specs.States.{SinkState}
 use Rattle.cerco_base.specs.Calls.{PutsText}
-use Rattle.cerco_base.proofs.Putting.{SoFar, begun}
-use Rattle.cerco_base.proofs.PuttingPieces.{piece_put, last_put}
+use Rattle.cerco_base.proofs.Putting.{SoFar}
+use Rattle.cerco_base.proofs.PuttingPieces.{begun_as, piece_put, last_put}
 use Rattle.cerco_base.specs.declared.faults.IoFault.{IoFault}
 use Rattle.clight_syntax.specs.declared.points.Point.{Point}
 use Rattle.clight_syntax.specs.Annotations.{Costs, annotated, piece_text, AreInOrderFrom, AreInOrder}
@@ -18,8 +18,7 @@ pub record IsPutUpTo (s t : SinkState) (source : List ℕ) (points : List Point)
 -- at the beginning nothing is put
 pub nothing_put : (s : SinkState) (source : List ℕ) (points : List Point) (costs : Costs) → AreInOrder (length source) points → IsPutUpTo s s source points costs 0 0
 nothing_put s source points costs order =
-    let P : List ℕ → Type 0 = λ rest. SoFar s s (annotated source points costs) rest in
-    record { order = order; put = subst P (annotated-whole source points costs order) (begun s (annotated source points costs)) }
+    record { order = order; put = begun_as s (annotated source points costs) (annotated_from 0 source points costs) (annotated-whole source points costs order) }
 
 -- the next to be put are the source up to a point, and the annotation of this point
 pub record IsPutUpToPoint (s t : SinkState) (source : List ℕ) (points : List Point) (costs : Costs) (index from : ℕ) (point : Point) : Type 0 where
