@@ -1,20 +1,17 @@
 -- How `build` ends, from what its stages did.
-use Rattle.std.proofs.Common.{◌≡◌, ℕ, ◌+◌, ◌<◌, ◌≤◌, List, [], ◌∷◌, ◌++◌, length, take, take_all, Bool, true, false, not, ◌&&◌, bytes_eq, IsTrue, Option, Some, None, option_map, cond, codes, refl, sym, ap, subst, ◌∙◌, arith, ◌⊎◌, inl, inr}
+use Rattle.std.proofs.Common.{◌≡◌, ℕ, ◌≤◌, List, [], ◌∷◌, length, take, take_all, Bool, true, false, not, ◌&&◌, bytes_eq, IsTrue, Option, Some, None, option_map, cond, codes, refl, sym, ap, subst, ◌∙◌, arith, inl, inr}
 use Rattle.std.proofs.lemmas.Bool.{true≢false}
-use Rattle.std.proofs.lemmas.Bool.Decides.{nat_tests}
 use Rattle.std.proofs.lemmas.Slice.Eq.{bytes_eq-Decides}
 use Rattle.std.proofs.lemmas.List.{length-take}
-use Rattle.cerco_base.specs.Causes.{Rose}
-use Rattle.cerco_base.specs.States.{FilesState, SameFiles, Puts}
+use Rattle.cerco_base.specs.States.{FilesState, SameFiles}
 use Rattle.cerco_base.proofs.Putting.{rose_since}
-use Rattle.object_hex.specs.HexText.{hex_text}
 use Rattle.object_hex.specs.MapText.{map_text}
 use Rattle.cerco_command.specs.Words.{BuildFiles, HaveDifferentNames, all_differ, build_of, is_build, is_name, request_of}
 use Rattle.cerco_command.specs.Words as Request
 use Rattle.cerco_command.specs.PortPrograms.{IsPortProgram, IsNoPortProgram}
 use Rattle.cerco_command.specs.Answers.{AreWritten, ArePartlyWritten}
-use Rattle.cerco_command.specs.Building.{IsCompiled, Builds, PartlyBuilds, Refuses, Faults, IsOutput, BuildMeans, outputs}
-use Rattle.cerco_command.specs.Stages.{IsRead, AreTexts, named_texts, IsNameOf, Makes, BuildsOn}
+use Rattle.cerco_command.specs.Building.{IsCompiled, Builds, PartlyBuilds, IsOutput, BuildMeans}
+use Rattle.cerco_command.specs.Stages.{IsRead, AreTexts, named_texts, IsNameOf, BuildsOn}
 use Rattle.cerco_command.proofs.Writing.{written_from, partly_from}
 use Rattle.cerco_command.specs.declared.status.Status.{Status}
 use Rattle.cerco_command.specs.declared.status.Status.TheVariants.{Done, NoFile, Usage, Refused, FileFault, NoMemory}

@@ -1,5 +1,5 @@
 -- What a program of port writes is compiled to keeps the promise.
-use Rattle.std.proofs.Common.{◌≡◌, ℕ, ◌+◌, ◌*◌, List, [], ◌∷◌, ◌++◌, length, Bool, false, IsTrue, Result, Ok, Err, is_err, refl, sym, ap, ◌∙◌}
+use Rattle.std.proofs.Common.{◌≡◌, ℕ, List, [], ◌∷◌, ◌++◌, false, IsTrue, Result, Ok, Err, is_err, ap, ◌∙◌}
 use Rattle.std.specs.List.{flat_map}
 use Rattle.cerco_base.specs.States.{SinkState}
 use Rattle.cerco_base.specs.Calls.{PutsText}

@@ -1,17 +1,15 @@
 -- How long programs of port writes and their objects are, and that their text has no annotation.
-use Rattle.std.proofs.Common.{◌≡◌, ℕ, zero, suc, ◌+◌, ◌*◌, ◌<◌, ◌≤◌, ◌^◌, List, [], ◌∷◌, ◌++◌, length, map, drop, Bool, true, false, nat_eq, ◌||◌, refl, sym, ap, ◌∙◌, arith, decimal, All, codes, append-nil, subst}
-use Rattle.std.specs.List.{flat_map, list_any, list_all, starts_with}
-use Rattle.std.specs.Char.{is_ascii_digit}
+use Rattle.std.proofs.Common.{◌≡◌, ℕ, zero, suc, ◌*◌, ◌<◌, ◌≤◌, List, [], ◌∷◌, ◌++◌, length, map, Bool, true, false, nat_eq, ◌||◌, refl, sym, ap, arith, decimal, All, codes, append-nil, subst}
+use Rattle.std.specs.List.{flat_map, list_any, starts_with}
 use Rattle.std.proofs.lemmas.Bool.Decides.{nat_tests}
 use Rattle.std.proofs.lemmas.Fmt.{decimal_nonempty}
 use Rattle.std.proofs.lemmas.List.{length-append}
 use Rattle.std.proofs.lemmas.List.Elements.{All-head, All-tail}
 use Rattle.clight_syntax.specs.Erasure.{HasNoMarker}
 use Rattle.clight_syntax.proofs.DecimalTexts.{list_all-decimal, list_any-digits}
-use Rattle.mcs51_isa.specs.declared.instr.Instr.{Instr}
 use Rattle.mcs51_isa.specs.declared.instr.Instr.TheVariants.{Return}
 use Rattle.mcs51_isa.specs.declared.instr.ReturnKind.TheVariants.{Ret}
-use Rattle.sim51.specs.Placed.{code_of_instrs, bytes_of, Stands}
+use Rattle.sim51.specs.Placed.{bytes_of, Stands}
 use Rattle.sim51.proofs.Placed.{length-code_of_instrs, bytes_of-append, instrs_there}
 use Rattle.cerco_command.specs.PortPrograms.{assignment_text, program_text, IsPortProgram}
 use Rattle.cerco_command.specs.PortObjects.{write, instructions, code}

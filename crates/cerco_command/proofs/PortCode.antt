@@ -1,5 +1,5 @@
 -- The code of a program of port writes, instruction by instruction.
-use Rattle.std.proofs.Common.{◌≡◌, ℕ, List, [], ◌∷◌, ◌++◌, map, refl, sym, ap, ◌∙◌, append_assoc, append-nil}
+use Rattle.std.proofs.Common.{◌≡◌, ℕ, List, [], ◌∷◌, ◌++◌, map, sym, ap, ◌∙◌, append_assoc, append-nil}
 use Rattle.std.proofs.lemmas.List.{map-append}
 use Rattle.mcs51_isa.specs.declared.instr.Instr.{Instr}
 use Rattle.mcs51_isa.specs.Table.{encode_of}

@@ -1,5 +1,5 @@
 -- The text of a program of port writes is read in one way.
-use Rattle.std.proofs.Common.{◌≡◌, ◌≢◌, ℕ, ◌+◌, ◌<◌, ◌≤◌, ◌^◌, List, [], ◌∷◌, ◌++◌, length, take, drop, get_or, map, Bool, true, false, nat_eq, nat_lt, ◌==◌, not, bytes_eq, Option, Some, None, refl, sym, ap, subst, ◌∙◌, arith, rules, decimal, cond, All, append_assoc, ◌⊎◌, inl, inr}
+use Rattle.std.proofs.Common.{◌≡◌, ◌≢◌, ℕ, ◌+◌, ◌<◌, ◌≤◌, List, [], ◌∷◌, ◌++◌, length, take, drop, get_or, true, false, nat_eq, nat_lt, ◌==◌, not, bytes_eq, Some, None, refl, sym, ap, ◌∙◌, arith, rules, decimal, cond, All, append_assoc, inl, inr}
 use Rattle.std.specs.List.{flat_map, position, position_or_len}
 use Rattle.std.specs.Int.{IsInRange}
 use Rattle.std.specs.Str.{all_ascii_digits}
@@ -13,7 +13,7 @@ use Rattle.std.proofs.lemmas.List.{get_or_append_left, length-append}
 use Rattle.std.proofs.lemmas.List.Sums.{position_or_len_is, passes_at_first, split_at_first}
 use Rattle.std.proofs.Math.Seq.{get_or-append_seam, take-append_seam, drop-append_seam}
 use Rattle.std.proofs.lemmas.List.Elements.{All-head, All-tail}
-use Rattle.cerco_command.specs.PortPrograms.{assignment_text, program_text}
+use Rattle.cerco_command.specs.PortPrograms.{assignment_text}
 
 own : IsNumeralModel (λ ds. all_ascii_digits ds ≡ true) (digits_value 10)
 own = numerals_by_value _ (search rules)

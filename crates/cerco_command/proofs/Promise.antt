@@ -1,31 +1,28 @@
 -- The object of a program of port writes does what the program means, in exactly the cycles that its annotated source says.
-use Rattle.std.proofs.Common.{◌≡◌, ℕ, zero, suc, ◌+◌, ◌*◌, ◌/◌, ◌%◌, ◌<◌, ◌≤◌, List, [], ◌∷◌, ◌++◌, length, map, replicate, Bool, true, false, Option, Some, None, IsTrue, slice_index, slice_set, slice_get, unwrap_or, refl, sym, ap, subst, ◌∙◌, arith, append_assoc, append-nil, lit≤, lit<}
-use Rattle.std.specs.List.{flat_map, sum_by}
+use Rattle.std.proofs.Common.{◌≡◌, ℕ, zero, suc, ◌+◌, ◌*◌, ◌%◌, ◌<◌, ◌≤◌, List, [], ◌∷◌, ◌++◌, length, map, Option, Some, None, IsTrue, slice_index, slice_set, slice_get, unwrap_or, refl, sym, ap, subst, ◌∙◌, arith, append_assoc, append-nil, lit≤}
+use Rattle.std.specs.List.{sum_by}
 use Rattle.std.proofs.lemmas.Bool.Decides.{nat_tests}
 use Rattle.std.proofs.lemmas.List.Sums.{sum_by-cons}
 use Rattle.cerco_base.specs.declared.events.Event.{Event}
-use Rattle.cerco_base.specs.declared.events.Event.TheVariants.{Write}
 use Rattle.cerco_base.specs.declared.events.Label.{Label}
 use Rattle.cerco_base.specs.declared.events.Port.TheVariants.{P1}
-use Rattle.cerco_base.specs.Events.{label, labels_in, Stopped, Ended, IsScript}
-use Rattle.cerco_base.specs.Systems.{System, IsWithin, Run, here, StopsAt}
-use Rattle.cerco_base.specs.Headline.{after, ArrivesWith, KeepsTo, Headline}
+use Rattle.cerco_base.specs.Events.{label, labels_in, Stopped, Ended}
+use Rattle.cerco_base.specs.Systems.{Run, here, StopsAt}
+use Rattle.cerco_base.specs.Headline.{Headline}
 use Rattle.cerco_base.proofs.Simulation.{joined, one_step}
 use Rattle.cerco_base.proofs.HeadlineProofs.{steps_of}
 use Rattle.clight_syntax.specs.Numbers.{numbers, cost_at, event_cost, start_cost_in, label_cost_in}
-use Rattle.mcs51_isa.specs.declared.instr.Instr.{Instr}
 use Rattle.mcs51_isa.specs.declared.instr.Instr.TheVariants.{Nop, Long, Return, Sjmp, MovDirectImmediate}
 use Rattle.mcs51_isa.specs.declared.instr.LongJump.TheVariants.{Lcall}
 use Rattle.mcs51_isa.specs.declared.instr.ReturnKind.TheVariants.{Ret}
-use Rattle.sim51.specs.State.{Core, State, reset, reset_core}
-use Rattle.sim51.specs.Locations.{called_from, top, popped}
-use Rattle.sim51.specs.Step.{Goes, instr_at, size, step, made, label_at, halts}
+use Rattle.sim51.specs.State.{Core, reset, reset_core}
+use Rattle.sim51.specs.Locations.{called_from, popped}
+use Rattle.sim51.specs.Step.{Goes, instr_at, label_at}
 use Rattle.sim51.specs.Runs.{Running, object, cycles_of_run, advanced, passes_label, has_halted}
-use Rattle.sim51.specs.Placed.{Stands, code_of_instrs}
+use Rattle.sim51.specs.Placed.{Stands}
 use Rattle.sim51.proofs.Steps.{step_goes, step_halts}
-use Rattle.sim51.proofs.Placed.{instrs_there}
 use Rattle.cerco_command.specs.PortPrograms.{meaning, writes}
-use Rattle.cerco_command.specs.PortObjects.{instructions, write, body, labels, costs}
+use Rattle.cerco_command.specs.PortObjects.{instructions, write, labels}
 
 no_label : (a : ℕ) → 9 ≤ a → label_at labels a ≡ None
 no_label a h = grind (arith, nat_tests)

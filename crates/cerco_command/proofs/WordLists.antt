@@ -1,5 +1,5 @@
 use Rattle.std.proofs.Common.{◌≡◌, ℕ, ◌<◌, ◌≤◌, List, [], ◌∷◌, length, map, refl, arith, None, Some, true, get_or}
-use Rattle.cerco_command.specs.Words.{build_of, is_build, BuildFiles}
+use Rattle.cerco_command.specs.Words.{build_of, is_build}
 
 pub build_short : {X : Type 0} (f : X → List ℕ) (ws : List X) → length ws < 5 → build_of (map f ws) ≡ None
 build_short f [] h = refl

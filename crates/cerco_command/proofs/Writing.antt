@@ -1,13 +1,11 @@
 -- Files that are written one after the other.
-use Rattle.std.proofs.Common.{◌≡◌, ℕ, ◌≤◌, List, [], ◌∷◌, ◌++◌, Result, Ok, Err, IsTrue, Some, false, bytes_eq, refl, sym, subst, ◌∙◌, arith, ◌⊎◌, inl, inr, OnOk}
-use Rattle.cerco_base.specs.Causes.{Rose}
+use Rattle.std.proofs.Common.{◌≡◌, ℕ, List, [], ◌∷◌, Result, Ok, Err, refl, subst, ◌∙◌, arith, ◌⊎◌, inl, inr}
 use Rattle.cerco_base.specs.States.{FilesState, SameFiles, Puts}
 use Rattle.cerco_base.specs.WholeFiles.{WritesFile, PutsPrefix}
 use Rattle.cerco_base.specs.declared.faults.IoFault.{IoFault}
-use Rattle.cerco_base.specs.declared.faults.IoFault.TheVariants as Io
 use Rattle.cerco_base.proofs.Putting.{rose_since}
 use Rattle.cerco_command.specs.Answers.{NamedText, AreWritten, ArePartlyWritten}
-use Rattle.cerco_command.specs.Stages.{WritesAll, IsNameOf}
+use Rattle.cerco_command.specs.Stages.{WritesAll}
 
 -- a text is written, and then others
 pub written_first : (name text : List ℕ) (files : List NamedText) (s t u : FilesState) (r : Result (Unit {0}) IoFault) (n x : List ℕ) {X : Type 0} (y : X) → n ≡ name → x ≡ text → WritesFile s t n x (Ok y) → WritesAll files t u r → WritesAll ((name, text) ∷ files) s u r

@@ -1,6 +1,6 @@
 -- What `build` promises. (The compiler's own; the headline is the correctness of a cost annotating compiler as in CerCo,
 -- deliverable 2.1.)
-use Rattle.std.specs.Prelude.{◌≡◌, ℕ, List, [], ◌∷◌, Option, Some, None, IsTrue, ◌⊎◌, false, bytes_eq}
+use Rattle.std.specs.Prelude.{◌≡◌, ℕ, List, [], ◌∷◌, Some, None, IsTrue, ◌⊎◌, false, bytes_eq}
 use Rattle.cerco_base.specs.Causes.{Rose}
 use Rattle.cerco_base.specs.States.{FilesState, SameFiles}
 use Rattle.cerco_base.specs.Headline.{Headline}

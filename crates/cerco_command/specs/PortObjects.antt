@@ -1,5 +1,5 @@
 -- The object of a program of port writes (Intel, MCS-51 instruction set), and what it costs.
-use Rattle.std.specs.Prelude.{ℕ, ◌+◌, List, [], ◌∷◌, ◌++◌, map, sum_by}
+use Rattle.std.specs.Prelude.{ℕ, List, [], ◌∷◌, ◌++◌, map, sum_by}
 use Rattle.mcs51_isa.specs.declared.instr.Instr.{Instr}
 use Rattle.mcs51_isa.specs.declared.instr.Instr.TheVariants.{Nop, Long, Return, Sjmp, MovDirectImmediate}
 use Rattle.mcs51_isa.specs.declared.instr.LongJump.TheVariants.{Lcall}

@@ -1,5 +1,5 @@
 -- The stages of `build`: reading the source, compiling it, and writing the outputs. (The compiler's own.)
-use Rattle.std.specs.Prelude.{◌≡◌, ℕ, ◌≤◌, List, [], ◌∷◌, Result, OnOk, OnErr, IfErr, IsTrue, Option, Some, None, take, ◌⊎◌}
+use Rattle.std.specs.Prelude.{◌≡◌, ℕ, ◌≤◌, List, [], ◌∷◌, Result, OnOk, OnErr, IfErr, IsTrue, Some, None, take, ◌⊎◌}
 use Rattle.cerco_base.specs.Causes.{Rose}
 use Rattle.cerco_base.specs.States.{FilesState, SameFiles}
 use Rattle.cerco_base.specs.declared.faults.IoFault.{IoFault}
@@ -9,9 +9,9 @@ use Rattle.object_hex.specs.MapText.{map_text}
 use Rattle.cerco_command.specs.Words.{BuildFiles}
 use Rattle.cerco_command.specs.PortPrograms.{IsNoPortProgram}
 use Rattle.cerco_command.specs.Answers.{NamedText, AreWritten, ArePartlyWritten}
-use Rattle.cerco_command.specs.Building.{IsCompiled, IsOutput}
+use Rattle.cerco_command.specs.Building.{IsCompiled}
 use Rattle.cerco_command.specs.declared.status.Status.{Status}
-use Rattle.cerco_command.specs.declared.status.Status.TheVariants.{Done, NoFile, Usage, Refused, FileFault, NoMemory}
+use Rattle.cerco_command.specs.declared.status.Status.TheVariants.{Done, NoFile, Refused, FileFault, NoMemory}
 
 -- the bytes under a name, or the first 65,536 of them
 abbrev pub IsRead : FilesState → List ℕ → List ℕ → Type 0

@@ -4,7 +4,7 @@ use Rattle.cerco_base.specs.States.{FilesState, SameFiles}
 use Rattle.cerco_command.specs.Words.{Request, Builds}
 use Rattle.cerco_command.specs.Building.{BuildMeans}
 use Rattle.cerco_command.specs.declared.status.Status.{Status}
-use Rattle.cerco_command.specs.declared.status.Status.TheVariants.{Done, NoFile, Usage, Refused, FileFault, NoMemory}
+use Rattle.cerco_command.specs.declared.status.Status.TheVariants.{Usage, NoMemory}
 
 -- words that are no command: nothing is put, and no file changes
 abbrev pub UsageMeans : FilesState → FilesState → Status → List ℕ → Type 0

@@ -1,4 +1,3 @@
-use Rattle.std.proofs.Common.{rules, sym, ap, subst, ◌∙◌}
 use Rattle.cerco_command.specs.Words.{files_of}
 use Rattle.cerco_command.proofs.Built.{built}
 use Rattle.cerco_command.proofs.building.build.Goals as goal

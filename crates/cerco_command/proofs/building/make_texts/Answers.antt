@@ -1,4 +1,4 @@
-use Rattle.std.proofs.Common.{rules, arith, ◌≡◌, ℕ, ◌<◌, ◌≤◌, List, [], ◌∷◌, length, refl, sym, ap, ◌∙◌, subst}
+use Rattle.std.proofs.Common.{arith, [], ◌∷◌, refl, sym, ◌∙◌}
 use Rattle.cerco_base.specs.Memory.{sound_sink_state}
 use Rattle.cerco_command.proofs.PortBounds.{few, code_fits}
 use Rattle.cerco_command.proofs.Compiled.{collected, texts_made}

@@ -1,4 +1,4 @@
-use Rattle.std.proofs.Common.{rules, ◌≡◌, ℕ, ◌<◌, List, sym, ◌∙◌, ap, arith, Ok, decimal, Result}
+use Rattle.std.proofs.Common.{◌≡◌, sym, ◌∙◌, ap, arith, decimal}
 use Rattle.std.proofs.lemmas.Fmt.{parse-decimal, IsAscii-decimal}
 use Rattle.std.proofs.lemmas.Str.{IsUtf8-from_ascii}
 use Rattle.cerco_command.proofs.PortTexts.{unequal}

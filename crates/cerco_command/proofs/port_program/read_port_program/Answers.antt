@@ -1,9 +1,9 @@
-use Rattle.std.proofs.Common.{rules, ◌≡◌, ◌≢◌, ℕ, ◌<◌, List, [], ◌∷◌, ◌++◌, All, arith, ap, sym, ◌∙◌, refl, drop, Bor, Some, codes}
+use Rattle.std.proofs.Common.{◌≡◌, ◌≢◌, ◌<◌, [], ◌∷◌, ◌++◌, ap, sym, ◌∙◌, drop, Some, codes}
 use Rattle.std.specs.List.{flat_map}
 use Rattle.std.proofs.lemmas.List.Elements.{All-nil}
 use Rattle.std.proofs.lemmas.Bool.Decides.{Decides-eqb}
 use Rattle.std.proofs.lemmas.Slice.Eq.{strip_prefix_is}
-use Rattle.cerco_command.specs.PortPrograms.{assignment_text, program_text}
+use Rattle.cerco_command.specs.PortPrograms.{assignment_text}
 use Rattle.cerco_command.proofs.PortTexts.{none_written, unequal}
 use Rattle.cerco_command.proofs.port_program.read_port_program.Goals as goal
 

@@ -1,6 +1,6 @@
-use Rattle.std.proofs.Common.{◌≡◌, ℕ, ◌<◌, ◌++◌, List, length, codes, All}
+use Rattle.std.proofs.Common.{◌≡◌, ◌<◌, ◌++◌, length, codes, All}
 use Rattle.std.specs.List.{flat_map}
-use Rattle.cerco_command.specs.PortPrograms.{assignment_text, program_text}
+use Rattle.cerco_command.specs.PortPrograms.{assignment_text}
 use Rattle.cerco_command.proofs.port_program.read_port_program.Given as goal
 
 abbrev pub invariant-loop-value : goal.invariant-loop-value

@@ -1,4 +1,4 @@
-use Rattle.std.proofs.Common.{rules, ◌≡◌, string_bytes, ℕ, List, sym, true}
+use Rattle.std.proofs.Common.{rules, ◌≡◌, string_bytes, sym, true}
 use Rattle.cerco_command.specs.Words.{is_build}
 use Rattle.cerco_command.proofs.WordLists.{build_short, build_long, build_five}
 use Rattle.cerco_command.proofs.words.read_build.Goals as goal
