@@ -1,6 +1,6 @@
--- The opcode map (Intel, MCS-51 instruction set) by its columns: the instruction that a first byte
--- and the two bytes behind it stand for.
-use Rattle.std.specs.Prelude.{ℕ, ◌+◌, ◌*◌, ◌/◌, ◌%◌, ◌-◌, List, [], ◌∷◌, get_or, Option, Some, None, nat_eq, nat_le, if◌then◌else◌, length}
+-- The opcode map (Intel, MCS-51 instruction set): the instruction that an opcode and the two bytes
+-- behind it stand for. The first hexadecimal digit of an opcode is its row, the last one its column.
+use Rattle.std.specs.Prelude.{ℕ, ◌+◌, ◌*◌, ◌/◌, ◌%◌, ◌-◌, List, [], ◌∷◌, slice_index_or, Option, Some, None, nat_eq, nat_le, if◌then◌else◌, length}
 use Rattle.mcs51_isa.specs.declared.instr.Instr.{Instr}
 use Rattle.mcs51_isa.specs.declared.instr.Instr.TheVariants.{Nop, Ajmp, Acall, Long, Return, RotateAcc, StepAcc, StepDirect, StepIndirect, StepRegister, BranchBit, BranchFlag, Sjmp, ArithImmediate, ArithDirect, ArithIndirect, ArithRegister, LogicDirectAcc, LogicDirectImmediate, LogicImmediate, LogicDirect, LogicIndirect, LogicRegister, CarryLogic, JmpIndirect, MovAccImmediate, MovDirectImmediate, MovIndirectImmediate, MovRegisterImmediate, Movc, Multiplier, MovDirectDirect, MovDirectIndirect, MovDirectRegister, MovDptr, MovBitCarry, MovCarryBit, IncDptr, MovIndirectDirect, MovRegisterDirect, ChangeBit, ChangeCarry, CjneImmediate, CjneDirect, CjneIndirect, CjneRegister, Stack, Adjust, XchDirect, XchIndirect, XchRegister, Xchd, DjnzDirect, DjnzRegister, MovxDptr, MovxIndirect, WholeAcc, MovDirect, MovIndirect, MovRegister}
 use Rattle.mcs51_isa.specs.declared.instr.LongJump.TheVariants.{Ljmp, Lcall}
@@ -189,15 +189,15 @@ column_page row x y =
 
 abbrev pub first_columns : ℕ → List Form
 first_columns row =
-    get_or column_0 row reserved ∷ column_page row ∷ get_or column_2 row reserved ∷
-    get_or column_3 row reserved ∷ get_or column_4 row reserved ∷ get_or column_5 row reserved ∷
-    get_or (column_indirect At0) row reserved ∷ get_or (column_indirect At1) row reserved ∷ []
+    slice_index_or column_0 row reserved ∷ column_page row ∷ slice_index_or column_2 row reserved ∷
+    slice_index_or column_3 row reserved ∷ slice_index_or column_4 row reserved ∷ slice_index_or column_5 row reserved ∷
+    slice_index_or (column_indirect At0) row reserved ∷ slice_index_or (column_indirect At1) row reserved ∷ []
 
 abbrev pub form_at : ℕ → ℕ → Form
 form_at column row =
     if nat_le 8 column
-    then get_or (column_register (reg_of (column - 8))) row reserved
-    else get_or (first_columns row) column reserved
+    then slice_index_or (column_register (reg_of (column - 8))) row reserved
+    else slice_index_or (first_columns row) column reserved
 
 -- the instruction that begins with these three bytes
 unfoldable pub decode_of : ℕ → ℕ → ℕ → Option Instr
@@ -209,4 +209,4 @@ with_length (Some i) = Some (i, length (encode_of i))
 
 -- the instruction at the front of a list of bytes, and its length
 abbrev pub decoded : List ℕ → Option (Instr × ℕ)
-decoded bytes = with_length (decode_of (get_or bytes 0 0) (get_or bytes 1 0) (get_or bytes 2 0))
+decoded bytes = with_length (decode_of (slice_index_or bytes 0 0) (slice_index_or bytes 1 0) (slice_index_or bytes 2 0))

@@ -1,6 +1,6 @@
 -- The operands of instructions (Intel, MCS-51 instruction set): the numbers by which an opcode names
 -- its register or page, where a jump leads, and the operands of assembler text as a list.
-use Rattle.std.specs.Prelude.{ℕ, ◌+◌, ◌*◌, ◌/◌, ◌%◌, List, [], ◌∷◌, get_or, nat_lt, if◌then◌else◌}
+use Rattle.std.specs.Prelude.{ℕ, ◌+◌, ◌*◌, ◌/◌, ◌%◌, List, [], ◌∷◌, slice_index_or, nat_lt, if◌then◌else◌}
 use Rattle.mcs51_isa.specs.declared.operands.Reg.{Reg}
 use Rattle.mcs51_isa.specs.declared.operands.Reg.TheVariants.{R0, R1, R2, R3, R4, R5, R6, R7}
 use Rattle.mcs51_isa.specs.declared.operands.Ind.{Ind}
@@ -24,7 +24,7 @@ reg_number R6 = 6
 reg_number R7 = 7
 
 abbrev pub reg_of : ℕ → Reg
-reg_of number = get_or (R0 ∷ R1 ∷ R2 ∷ R3 ∷ R4 ∷ R5 ∷ R6 ∷ R7 ∷ []) number R0
+reg_of number = slice_index_or (R0 ∷ R1 ∷ R2 ∷ R3 ∷ R4 ∷ R5 ∷ R6 ∷ R7 ∷ []) number R0
 
 -- the number of an indirect register, and the indirect register with this number
 abbrev pub ind_number : Ind → ℕ
@@ -32,7 +32,7 @@ ind_number At0 = 0
 ind_number At1 = 1
 
 abbrev pub ind_of : ℕ → Ind
-ind_of number = get_or (At0 ∷ At1 ∷ []) number At0
+ind_of number = slice_index_or (At0 ∷ At1 ∷ []) number At0
 
 -- the number of a page, and the page with this number
 abbrev pub page_number : Page → ℕ
@@ -46,7 +46,7 @@ page_number Page6 = 6
 page_number Page7 = 7
 
 abbrev pub page_of : ℕ → Page
-page_of number = get_or (Page0 ∷ Page1 ∷ Page2 ∷ Page3 ∷ Page4 ∷ Page5 ∷ Page6 ∷ Page7 ∷ []) number Page0
+page_of number = slice_index_or (Page0 ∷ Page1 ∷ Page2 ∷ Page3 ∷ Page4 ∷ Page5 ∷ Page6 ∷ Page7 ∷ []) number Page0
 
 -- the low 11 bits of an address
 abbrev pub addr11_of : ℕ → Addr11
@@ -60,6 +60,7 @@ page_target next a = next / 2048 * 2048 + page_number a.page * 256 + a.low
 abbrev pub relative_target : ℕ → ℕ → ℕ
 relative_target next offset = (next + (if nat_lt offset 0x80 then offset else offset + 0xFF00)) % 65536
 
+-- the operands of an instruction, in the order of the assembler
 abbrev pub operand_list : OperandList → List Operand
 operand_list Nothing = []
 operand_list (One x) = x ∷ []

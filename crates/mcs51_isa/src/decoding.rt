@@ -1,5 +1,5 @@
 //! The instructions that bytes stand for, by the columns of the opcode map.
-ghost use Rattle.std.specs.Prelude.{◌≡◌, ℕ, Some, ◌<◌, ◌+◌, ◌*◌, ◌-◌, ◌++◌, ◌↔◌, None, IfSome, get_or, slice_index, take, replicate};
+ghost use Rattle.std.specs.Prelude.{◌≡◌, ℕ, Some, ◌<◌, ◌+◌, ◌*◌, ◌-◌, ◌++◌, ◌↔◌, None, IfSome, slice_index_or, slice_index, take, replicate};
 ghost use Rattle.mcs51_isa.specs.Table.{padded_code_of};
 ghost use Rattle.mcs51_isa.specs.Decoding.{decode_of, decoded, reserved, column_0, column_page, column_2, column_3, column_4, column_5, column_indirect, column_register};
 
@@ -62,7 +62,7 @@ fn column_page(row: u8, first: u8) -> Instr
 
 fn column_0(row: u8, first: u8, second: u8) -> Option<Instr>
     requires { row < 16 }
-    ensures { result ≡ get_or column_0 row reserved first second }
+    ensures { result ≡ slice_index_or column_0 row reserved first second }
 {
     match row {
         0x0 => Some(Instr::Nop),
@@ -86,7 +86,7 @@ fn column_0(row: u8, first: u8, second: u8) -> Option<Instr>
 
 fn column_2(row: u8, first: u8, second: u8) -> Option<Instr>
     requires { row < 16 }
-    ensures { result ≡ get_or column_2 row reserved first second }
+    ensures { result ≡ slice_index_or column_2 row reserved first second }
 {
     match row {
         0x0 => Some(Instr::Long(LongJump::Ljmp, word(first, second))),
@@ -110,7 +110,7 @@ fn column_2(row: u8, first: u8, second: u8) -> Option<Instr>
 
 fn column_3(row: u8, first: u8, second: u8) -> Option<Instr>
     requires { row < 16 }
-    ensures { result ≡ get_or column_3 row reserved first second }
+    ensures { result ≡ slice_index_or column_3 row reserved first second }
 {
     match row {
         0x0 => Some(Instr::RotateAcc(Rotate::Rr)),
@@ -134,7 +134,7 @@ fn column_3(row: u8, first: u8, second: u8) -> Option<Instr>
 
 fn column_4(row: u8, first: u8, second: u8) -> Option<Instr>
     requires { row < 16 }
-    ensures { result ≡ get_or column_4 row reserved first second }
+    ensures { result ≡ slice_index_or column_4 row reserved first second }
 {
     match row {
         0x0 => Some(Instr::StepAcc(Step::Inc)),
@@ -158,7 +158,7 @@ fn column_4(row: u8, first: u8, second: u8) -> Option<Instr>
 
 fn column_5(row: u8, first: u8, second: u8) -> Option<Instr>
     requires { row < 16 }
-    ensures { result ≡ get_or column_5 row reserved first second }
+    ensures { result ≡ slice_index_or column_5 row reserved first second }
 {
     match row {
         0x0 => Some(Instr::StepDirect(Step::Inc, first)),
@@ -185,7 +185,7 @@ fn column_5(row: u8, first: u8, second: u8) -> Option<Instr>
 
 fn column_indirect(row: u8, ind: Ind, first: u8, second: u8) -> Option<Instr>
     requires { row < 16 }
-    ensures { result ≡ get_or (column_indirect ind) row reserved first second }
+    ensures { result ≡ slice_index_or (column_indirect ind) row reserved first second }
 {
     match row {
         0x0 => Some(Instr::StepIndirect(Step::Inc, ind)),
@@ -209,7 +209,7 @@ fn column_indirect(row: u8, ind: Ind, first: u8, second: u8) -> Option<Instr>
 
 fn column_register(row: u8, reg: Reg, first: u8, second: u8) -> Option<Instr>
     requires { row < 16 }
-    ensures { result ≡ get_or (column_register reg) row reserved first second }
+    ensures { result ≡ slice_index_or (column_register reg) row reserved first second }
 {
     match row {
         0x0 => Some(Instr::StepRegister(Step::Inc, reg)),

@@ -5,7 +5,8 @@ ghost use Rattle.mcs51_isa.specs.Listing.{hex_digit, hex_byte, hex_word};
 
 use std::marker::Model;
 
-/// The most bytes of a line.
+/// The most bytes of a line: 4 digits, 6 digits, a mnemonic of 5 letters, three operands of 7
+/// characters, 5 blanks and commas and the end are 42.
 pub const CAPACITY: usize = 48;
 
 /// A text of at most `CAPACITY` bytes. Contracts see it as the list of its bytes.
@@ -17,12 +18,13 @@ pub struct Line {
 
 impl Model for Line {
     ghost use Rattle.std.specs.Prelude.{List, ℕ, take, ◌≤◌};
+    ghost use Rattle.mcs51_isa.specs.declared.line.TheConstants.{CAPACITY};
 
     ghost Value = { List ℕ };
 
     ghost view = { λ l. take l.len l.bytes };
 
-    ghost invariant = { λ l. l.len ≤ 48 };
+    ghost invariant = { λ l. l.len ≤ CAPACITY };
 }
 
 impl Line {

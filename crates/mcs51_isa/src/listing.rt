@@ -36,6 +36,7 @@ fn line(at: u16, i: Instr) -> Line
     line
 }
 
+// Before the operands a line has at most 17 bytes, and they take at most 24.
 fn push_operands(line: &mut Line, next: u16, operands: OperandList)
     requires { length line.old ≤ 17 }
     ensures text { line.new ≡ line.old ++ operands_text next (operand_list operands) }

@@ -1,5 +1,5 @@
 -- The runs of object code come to each stop in one way.
-use Rattle.std.proofs.Common.{◌≡◌, ℕ, ◌+◌, ◌≤◌, IsTrue, Bool, true, false, is_some, List, [], ◌∷◌, ◌++◌, Option, Some, None, refl, ap, ◌∙◌, arith}
+use Rattle.std.proofs.Common.{◌≡◌, ℕ, ◌+◌, ◌≤◌, IsTrue, true, false, is_some, List, [], ◌∷◌, ◌++◌, Option, Some, None, refl, ap, ◌∙◌, arith}
 use Rattle.cerco_base.specs.declared.events.Port.{Port}
 use Rattle.cerco_base.specs.declared.events.Label.{Label}
 use Rattle.cerco_base.specs.declared.events.Event.{Event}
@@ -8,8 +8,9 @@ use Rattle.cerco_base.specs.Events.{labels_in}
 use Rattle.cerco_base.specs.Headline.{ArrivesOnce}
 use Rattle.cerco_base.proofs.HeadlineProofs.{StopsOnce, arrives_once}
 use Rattle.sim51.specs.declared.events.Events.{Events}
-use Rattle.sim51.specs.State.{State}
-use Rattle.sim51.specs.Step.{Moved, Halts, Reserved, Goes, step}
+use Rattle.mcs51_isa.specs.declared.instr.Instr.{Instr}
+use Rattle.sim51.specs.Step.{Moved, Halts, Reserved, Goes, label_at, instr_at, halts, made, step}
+use Rattle.sim51.proofs.Steps.{step_goes, step_halts}
 use Rattle.sim51.specs.Runs.{Running, object, advanced, passes_label, has_halted, events_of, cycles_of_run}
 
 pub labels_in-append : (es fs : List Event) → labels_in (es ++ fs) ≡ labels_in es + labels_in fs
@@ -70,3 +71,15 @@ object_stops_once code labels = record {
 
 pub object_arrives_once : (code labels : List ℕ) → ArrivesOnce (object code labels) cycles_of_run
 object_arrives_once code labels = arrives_once (object code labels) (object_stops_once code labels) cycles_of_run
+
+-- What the next step of a run is, by the instruction at its place.
+module _ (code labels : List ℕ) (r : Running) (i : Instr) (there : instr_at code r.state.pc ≡ Some i) where
+  pub running_goes : halts i r.state.pc ≡ false → (object code labels).step r ≡ advanced r (made code labels i r.state)
+  running_goes goes = ap (advanced r) (step_goes code labels r.state i there goes)
+
+  pub running_due : (l : Label) → halts i r.state.pc ≡ false → label_at labels r.state.pc ≡ Some l → IsTrue ((object code labels).due r)
+  running_due l goes labelled =
+      ap passes_label (step_goes code labels r.state i there goes) ∙ ap is_some labelled
+
+  pub running_ended : halts i r.state.pc ≡ true → IsTrue ((object code labels).ended r)
+  running_ended over = ap has_halted (step_halts code labels r.state i there over)

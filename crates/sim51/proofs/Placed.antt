@@ -50,10 +50,11 @@ instrs_there (i ∷ is) before behind fits =
     let passed : length (before ++ encode_of i) ≡ length before + size i = length-append before (encode_of i) in
     let first : before ++ (code_of_instrs (i ∷ is) ++ behind) ≡ before ++ (encode_of i ++ (code_of_instrs is ++ behind)) = ap (λ l. before ++ l) (append_assoc (encode_of i) (code_of_instrs is) behind) in
     let whole : (before ++ encode_of i) ++ (code_of_instrs is ++ behind) ≡ before ++ (code_of_instrs (i ∷ is) ++ behind) = append_assoc before (encode_of i) (code_of_instrs is ++ behind) ∙ sym first in
-    let rest = instrs_there is (before ++ encode_of i) behind (omega (arith, total, passed)) in
-    (ap (λ l. instr_at l (length before)) first ∙ instr_there i before (code_of_instrs is ++ behind) fits_first,
-     fits_first,
-     subst (λ a. Stands (before ++ (code_of_instrs (i ∷ is) ++ behind)) a is) passed (subst (λ l. Stands l (length (before ++ encode_of i)) is) whole rest))
+    let rest = instrs_there is (before ++ encode_of i) behind (omega (arith, total, passed)) in (
+      ap (λ l. instr_at l (length before)) first ∙ instr_there i before (code_of_instrs is ++ behind) fits_first,
+      fits_first,
+      subst (λ a. Stands (before ++ (code_of_instrs (i ∷ is) ++ behind)) a is) passed (subst (λ l. Stands l (length (before ++ encode_of i)) is) whole rest),
+    )
 
 pub length-code_of_instrs : (is : List Instr) → length (code_of_instrs is) ≡ bytes_of is
 length-code_of_instrs [] = refl

@@ -1,10 +1,8 @@
 -- What a step is, by the instruction at its address.
 use Rattle.std.proofs.Common.{◌≡◌, ℕ, ◌+◌, ◌%◌, List, Option, Some, None, Bool, true, false, cond, refl, sym, ap, ◌∙◌, arith, slice_index, get_or, ◌<◌}
 use Rattle.std.proofs.lemmas.Option.{get_or_from_slice_get}
-use Rattle.cerco_base.specs.declared.events.Label.{Label}
 use Rattle.mcs51_isa.specs.declared.instr.Instr.{Instr}
 use Rattle.sim51.specs.declared.places.Place.{Place}
-use Rattle.sim51.specs.declared.places.Place.TheVariants as Place
 use Rattle.sim51.specs.declared.places.Planned.{Planned}
 use Rattle.sim51.specs.State.{State}
 use Rattle.sim51.specs.Effect.{Effect, code_at, effect}

@@ -1,67 +1,41 @@
 -- How the table of the labels of all addresses grows, one label after another, and that of their places, one address after another.
-use Rattle.std.proofs.Common.{◌≡◌, ◌≢◌, ℕ, zero, suc, ◌+◌, ◌<◌, ◌≤◌, List, [], ◌∷◌, ◌++◌, Option, Some, None, Bool, true, false, cond, refl, sym, ap, ◌∙◌, arith, get_or, set, take, length, inl, inr, nat_eq, length-take, length-append, subst}
-use Rattle.std.specs.Prelude.{◌==◌, ◌||◌, option_map, slice_get}
-use Rattle.std.specs.List.{IsDistinct, position_from, list_any}
+use Rattle.std.proofs.Common.{◌≡◌, ℕ, suc, ◌+◌, ◌<◌, ◌≤◌, List, [], ◌∷◌, ◌++◌, Option, Some, None, true, false, sym, ap, ◌∙◌, arith, get_or, set, take, length, inl, inr, nat_eq, length-take, length-append, subst}
+use Rattle.std.specs.Prelude.{◌==◌, ◌||◌, slice_get}
+use Rattle.std.specs.List.{IsDistinct, list_any}
 use Rattle.std.proofs.lemmas.List.{get_or-take, get_or-set_same, get_or-set_other, take_more, length-set, get_or_append_left, get_or_push}
 use Rattle.std.proofs.lemmas.Option.{slice_get_read, slice_get_within, get_or_from_slice_get}
-use Rattle.std.proofs.lemmas.Iterator.Adapters.{position_from-zero}
 use Rattle.std.proofs.lemmas.Map.Keys.{apart_from_distinct}
 use Rattle.std.proofs.lemmas.Bool.Decides.{eqb_tells}
-use Rattle.std.proofs.lemmas.Bool.{eq-eqb, ne_eqb}
 use Rattle.std.proofs.lemmas.Map.Steps.{length-le_from_distinct_below}
 use Rattle.cerco_base.specs.declared.events.Label.{Label}
 use Rattle.sim51.specs.declared.places.Place.{Place}
 use Rattle.sim51.specs.Step.{instr_at, label_at}
 use Rattle.sim51.specs.Places.{ArePlaces, place_by, place_of}
+use Rattle.sim51.proofs.Labels.{label_at-push, label_at-first}
 
 -- this table has the label at each address
 pub record IsTable (labels : List ℕ) (table : List (Option Label)) : Type 0 where
   pub count : length table ≡ 65536
   pub each : (a : ℕ) → a < 65536 → get_or table a None ≡ label_at labels a
 
-position_from-push : (p : ℕ → Bool) (k : ℕ) (xs : List ℕ) (y : ℕ) → p y ≡ false → position_from p k (xs ++ y ∷ []) ≡ position_from p k xs
-position_from-push p k [] y other = ap (λ b. cond b (Some k) None) other
-position_from-push p k (x ∷ xs) y other = ap (λ r. cond (p x) (Some k) r) (position_from-push p (k + 1) xs y other)
-
-position_from-push_first : (p : ℕ → Bool) (k : ℕ) (xs : List ℕ) (y : ℕ) → ((j : ℕ) → j < length xs → p (get_or xs j 0) ≡ false) → p y ≡ true → position_from p k (xs ++ y ∷ []) ≡ Some (k + length xs)
-position_from-push_first p k [] y before here = ap (λ b. cond b (Some k) None) here ∙ ap Some (omega arith)
-position_from-push_first p k (x ∷ xs) y before here =
-    ap (λ b. cond b (Some k) (position_from p (k + 1) (xs ++ y ∷ []))) (before 0 (omega arith))
-    ∙ position_from-push_first p (k + 1) xs y (λ j lt. before (suc j) (omega arith)) here
-    ∙ ap Some (omega arith)
-
-label_at-position_from : (labels : List ℕ) (a : ℕ) → label_at labels a ≡ option_map (λ k. record { 0 = k }) (position_from (λ x. x == a) 0 labels)
-label_at-position_from labels a = ap (λ o. option_map (λ k. record { 0 = k }) o) (position_from-zero (λ x. x == a) labels)
-
-label_at-push : (labels : List ℕ) (y a : ℕ) → y ≢ a → label_at (labels ++ y ∷ []) a ≡ label_at labels a
-label_at-push labels y a other =
-    label_at-position_from (labels ++ y ∷ []) a
-    ∙ ap (λ o. option_map (λ k. record { 0 = k }) o) (position_from-push (λ x. x == a) 0 labels y (ne_eqb y a other))
-    ∙ sym (label_at-position_from labels a)
-
-label_at-push_first : (labels : List ℕ) (y : ℕ) → ((j : ℕ) → j < length labels → get_or labels j 0 == y ≡ false) → label_at (labels ++ y ∷ []) y ≡ Some (record { 0 = length labels })
-label_at-push_first labels y before =
-    label_at-position_from (labels ++ y ∷ []) y
-    ∙ ap (λ o. option_map (λ k. record { 0 = k }) o) (position_from-push_first (λ x. x == y) 0 labels y before (eq-eqb y y refl) ∙ ap Some (omega arith))
-
 pub table_grows : (labels : List ℕ) (table : List (Option Label)) (i at : ℕ) → IsDistinct nat_eq labels → i < length labels → get_or labels i 0 ≡ at → at < 65536 → IsTable (take i labels) table → IsTable (take (i + 1) labels) (set table at (Some (record { 0 = i })))
 table_grows labels table i at distinct within here low t =
     let count_of_front : length (take i labels) ≡ i = length-take i labels ∙ omega arith in
     let grown : take (i + 1) labels ≡ take i labels ++ at ∷ [] = take_more labels i 0 within ∙ ap (λ x. take i labels ++ x ∷ []) here in
     let apart : (j : ℕ) → j < length (take i labels) → get_or (take i labels) j 0 == at ≡ false =
-        λ j lt. let lower : j < i = omega arith in
-            ap (λ x. x == at) (get_or-take i labels j 0 lower) ∙ ap (λ x. get_or labels j 0 == x) (sym here) ∙ apart_from_distinct nat_eq labels j i 0 distinct lower within in
+    λ j lt. let lower : j < i = omega arith in
+    ap (λ x. x == at) (get_or-take i labels j 0 lower) ∙ ap (λ x. get_or labels j 0 == x) (sym here) ∙ apart_from_distinct nat_eq labels j i 0 distinct lower within in
     record {
       count = length-set table at (Some (record { 0 = i })) ∙ t.count;
       each = λ a low_a. elim (eqb_tells at a) [
-        inl same ↦
-          let first : label_at (take i labels ++ at ∷ []) at ≡ Some (record { 0 = i }) = label_at-push_first (take i labels) at apart ∙ ap (λ n. Some (record { 0 = n })) count_of_front in
-          subst (λ b. get_or (set table at (Some (record { 0 = i }))) b None ≡ label_at (take (i + 1) labels) b) same.1
+        | inl same ↦
+            let first : label_at (take i labels ++ at ∷ []) at ≡ Some (record { 0 = i }) = label_at-first (take i labels) at [] apart ∙ ap (λ n. Some (record { 0 = n })) count_of_front in
+            subst (λ b. get_or (set table at (Some (record { 0 = i }))) b None ≡ label_at (take (i + 1) labels) b) same.1
             (get_or-set_same table at (Some (record { 0 = i })) None (omega (arith, t.count)) ∙ sym (ap (λ l. label_at l at) grown ∙ first))
         | inr other ↦
-          get_or-set_other table at a (Some (record { 0 = i })) None (λ e. other.1 (sym e))
-          ∙ t.each a low_a
-          ∙ sym (ap (λ l. label_at l a) grown ∙ label_at-push (take i labels) at a other.1)
+            get_or-set_other table at a (Some (record { 0 = i })) None (λ e. other.1 (sym e))
+            ∙ t.each a low_a
+            ∙ sym (ap (λ l. label_at l a) grown ∙ label_at-push (take i labels) at a other.1)
       ];
     }
 
@@ -73,7 +47,7 @@ at_most_all labels distinct low = length-le_from_distinct_below labels 65536 dis
     below_if_any q [] each found = absurd cc
     below_if_any q (x ∷ xs) each found =
         elim (eqb_tells q x) [
-          inl same ↦ let first = each 0 (omega arith) in omega (arith, first, same.1)
+          | inl same ↦ let first = each 0 (omega arith) in omega (arith, first, same.1)
           | inr other ↦ below_if_any q xs (λ k lt. each (suc k) (omega arith)) (ap (λ b. b || list_any (nat_eq q) xs) (sym other.0) ∙ found)
         ]
 
@@ -105,7 +79,7 @@ places_grow code labels table n places place label below low read made =
       labelled = below.labelled;
       count = length-push places place ∙ ap (λ k. k + 1) below.count;
       each = λ a lt. elim (eqb_tells a n) [
-        inl last ↦ subst (λ b. slice_get (places ++ place ∷ []) b ≡ Some (place_of code labels b)) (sym last.1) (slice_get-push_last places place n below.count ∙ ap Some right)
+        | inl last ↦ subst (λ b. slice_get (places ++ place ∷ []) b ≡ Some (place_of code labels b)) (sym last.1) (slice_get-push_last places place n below.count ∙ ap Some right)
         | inr before ↦ slice_get-push places place _ a (below.each a (let lower : a < n = omega (arith, before.1) in lower))
       ];
     }

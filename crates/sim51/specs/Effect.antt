@@ -1,7 +1,7 @@
 -- What each instruction does to the registers and memories, where it goes on, and which port it reads and writes (Intel, MCS-51
 -- family: instruction set). A direct or bit access that reads a port reads its pins; the instructions that read a byte, change it and
 -- write it back read its latch.
-use Rattle.std.specs.Prelude.{ℕ, ◌+◌, ◌*◌, ◌/◌, ◌%◌, ◌-◌, List, Option, Some, None, Bool, true, false, if◌then◌else◌, not, ◌&&◌, ◌||◌, nat_eq, nat_lt, nat_le, slice_index, slice_set, bit_and, bit_or, bit_xor}
+use Rattle.std.specs.Prelude.{ℕ, ◌+◌, ◌*◌, ◌/◌, ◌%◌, ◌-◌, List, Option, None, Bool, true, false, if◌then◌else◌, not, ◌&&◌, ◌||◌, nat_eq, nat_lt, nat_le, slice_index, slice_set, bit_and, bit_or, bit_xor}
 use Rattle.cerco_base.specs.declared.events.Port.{Port}
 use Rattle.mcs51_isa.specs.declared.instr.Instr.{Instr}
 use Rattle.mcs51_isa.specs.declared.instr.Instr.TheVariants.{Nop, Ajmp, Acall, Long, Return, RotateAcc, StepAcc, StepDirect, StepIndirect, StepRegister, BranchBit, BranchFlag, Sjmp, ArithImmediate, ArithDirect, ArithIndirect, ArithRegister, LogicDirectAcc, LogicDirectImmediate, LogicImmediate, LogicDirect, LogicIndirect, LogicRegister, CarryLogic, JmpIndirect, MovAccImmediate, MovDirectImmediate, MovIndirectImmediate, MovRegisterImmediate, Movc, Multiplier, MovDirectDirect, MovDirectIndirect, MovDirectRegister, MovDptr, MovBitCarry, MovCarryBit, IncDptr, MovIndirectDirect, MovRegisterDirect, ChangeBit, ChangeCarry, CjneImmediate, CjneDirect, CjneIndirect, CjneRegister, Stack, Adjust, XchDirect, XchIndirect, XchRegister, Xchd, DjnzDirect, DjnzRegister, MovxDptr, MovxIndirect, WholeAcc, MovDirect, MovIndirect, MovRegister}
@@ -36,7 +36,7 @@ use Rattle.mcs51_isa.specs.declared.operands.Ind.{Ind}
 use Rattle.mcs51_isa.specs.Operands.{page_target, relative_target}
 use Rattle.sim51.specs.declared.location.Location.{Location}
 use Rattle.sim51.specs.State.{Core}
-use Rattle.sim51.specs.Locations.{bit_value, bit_of, with_bit, location_of, byte_of_bit, held, read_value, after_read, read_event, written, write_event, register, with_register, pointer, indirect, with_indirect, external_pointer, dptr, with_dptr, raised, with_top, top, popped, called_from}
+use Rattle.sim51.specs.Locations.{bit_value, bit_of, with_bit, location_of, byte_of_bit, held, read_value, after_read, read_event, written, write_event, register, with_register, indirect, with_indirect, external_pointer, dptr, with_dptr, raised, with_top, top, popped, called_from}
 
 -- what is held after an instruction, the address that it goes on at, and the byte of a port that it reads and writes
 pub record Effect : Type 0 where

@@ -60,11 +60,18 @@ location_of a = if nat_lt a 0x80 then Ram a else special_at a
 abbrev pub byte_of_bit : ℕ → ℕ
 byte_of_bit bit = if nat_lt bit 0x80 then 0x20 + bit / 8 else bit - bit % 8
 
+-- the place of a port's latch among the four, and its direct address
 abbrev pub port_number : Port → ℕ
 port_number P0 = 0
 port_number P1 = 1
 port_number P2 = 2
 port_number P3 = 3
+
+abbrev pub port_address : Port → ℕ
+port_address P0 = 0x80
+port_address P1 = 0x90
+port_address P2 = 0xA0
+port_address P3 = 0xB0
 
 -- the byte that is held at a location; a port holds its latch
 abbrev pub held : Core → Location → ℕ

@@ -4,10 +4,8 @@ use Rattle.cerco_base.specs.declared.events.Label.{Label}
 use Rattle.mcs51_isa.specs.declared.instr.Instr.{Instr}
 use Rattle.mcs51_isa.specs.Table.{cycles_of}
 use Rattle.sim51.specs.declared.places.Place.{Place}
-use Rattle.sim51.specs.declared.places.Place.TheVariants as Place
 use Rattle.sim51.specs.declared.executed.Executed.{Executed}
 use Rattle.sim51.specs.declared.events.Step.{Step}
-use Rattle.sim51.specs.declared.events.Step.TheVariants as Answer
 use Rattle.sim51.specs.State.{Core, State}
 use Rattle.sim51.specs.Effect.{Effect}
 use Rattle.sim51.specs.Step.{Moved, Halts, Reserved, Goes, instr_at, next_address, halts, label_at}
@@ -20,15 +18,15 @@ pub record LoadedMachine : Type 0 where
 
 -- a step's answer and the state after it, in the words of the definition
 abbrev pub moved : Step → State → Moved
-moved Answer.Halted s = Halts
-moved Answer.Reserved s = Reserved
-moved (Answer.Went e) s = Goes e s
+moved Step.Halted s = Halts
+moved Step.Reserved s = Reserved
+moved (Step.Went e) s = Goes e s
 
 -- a step that goes nowhere changes nothing
 abbrev pub KeepsState : Step → State → State → Type 0
-KeepsState Answer.Halted old new = new ≡ old
-KeepsState Answer.Reserved old new = new ≡ old
-KeepsState (Answer.Went e) old new = Unit {0}
+KeepsState Step.Halted old new = new ≡ old
+KeepsState Step.Reserved old new = new ≡ old
+KeepsState (Step.Went e) old new = Unit {0}
 
 -- an instruction's effect: what is held after it, and the rest
 abbrev pub effect_of : Core → Executed → Effect

@@ -1,5 +1,5 @@
 -- One step of the machine (Intel, MCS-51 family). That a jump to itself halts is this project's own: the device would repeat it.
-use Rattle.std.specs.Prelude.{ℕ, ◌+◌, ◌%◌, List, Option, Some, None, Bool, true, false, if◌then◌else◌, nat_eq, ◌==◌, length, position, option_map}
+use Rattle.std.specs.Prelude.{ℕ, ◌+◌, ◌%◌, List, Option, Some, None, Bool, false, if◌then◌else◌, nat_eq, ◌==◌, length, position, option_map}
 use Rattle.cerco_base.specs.declared.events.Label.{Label}
 use Rattle.mcs51_isa.specs.declared.instr.Instr.{Instr}
 use Rattle.mcs51_isa.specs.declared.instr.Instr.TheVariants.{Ajmp, Sjmp, Long}
@@ -8,8 +8,8 @@ use Rattle.mcs51_isa.specs.Operands.{page_target, relative_target}
 use Rattle.mcs51_isa.specs.Table.{encode_of, cycles_of}
 use Rattle.mcs51_isa.specs.Decoding.{decode_of}
 use Rattle.sim51.specs.declared.events.Events.{Events}
-use Rattle.sim51.specs.State.{Core, State}
-use Rattle.sim51.specs.Effect.{Effect, effect, code_at}
+use Rattle.sim51.specs.State.{State}
+use Rattle.sim51.specs.Effect.{effect, code_at}
 
 -- the instruction at an address, if its first byte isn't the reserved opcode
 unfoldable pub instr_at : List ℕ → ℕ → Option Instr
@@ -45,9 +45,8 @@ pub data Moved : Type 0 where
 abbrev pub made : List ℕ → List ℕ → Instr → State → Moved
 made code labels i s =
     let e = effect code i (next_address s.pc i) s.core in
-    Goes
-        (record { label = label_at labels s.pc; read = e.read; write = e.write })
-        (record { core = e.core; pc = e.pc; cycles = s.cycles + cycles_of i })
+    let events : Events = record { label = label_at labels s.pc; read = e.read; write = e.write } in
+    Goes events (record { core = e.core; pc = e.pc; cycles = s.cycles + cycles_of i })
 
 abbrev pub moved_by : List ℕ → List ℕ → Option Instr → State → Moved
 moved_by code labels None s = Reserved

@@ -10,6 +10,8 @@ pub mod machine;
 mod operations;
 mod places;
 mod processor;
+#[cfg(test)]
+mod tests;
 
 pub use events::{Events, Step};
 pub use machine::Machine;

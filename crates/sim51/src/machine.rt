@@ -8,7 +8,7 @@ ghost use Rattle.sim51.specs.Runs.{object, cycles_of_run};
 ghost use Rattle.sim51.specs.Places.{moved, KeepsState};
 
 use crate::events::{Events, Step};
-use crate::places::{places, Place};
+use crate::places::{Place, places};
 use crate::processor::Processor;
 use cerco_base::NoMemory;
 use std::alloc::Global;
@@ -32,9 +32,9 @@ impl<'a> Model for Machine<'a> {
     ghost Value = { LoadedMachine };
 
     ghost view = { λ m. record {
-        code = m.code.items;
-        labels = m.labels.items;
-        state = record { core = m.processor; pc = m.pc; cycles = m.cycles }
+      code = m.code.items;
+      labels = m.labels.items;
+      state = record { core = m.processor; pc = m.pc; cycles = m.cycles };
     } };
 
     ghost invariant = { λ m. ArePlaces m.code.items m.labels.items m.places.items };
@@ -78,7 +78,9 @@ impl<'a> Machine<'a> {
             Place::Halt => Step::Halted,
             Place::Reserved => Step::Reserved,
             Place::Runs(planned) => {
-                let executed = self.processor.execute(&self.code, planned.instr, planned.next);
+                let executed = self
+                    .processor
+                    .execute(&self.code, planned.instr, planned.next);
                 self.pc = executed.pc;
                 self.cycles += planned.cycles as u64;
                 Step::Went(Events {

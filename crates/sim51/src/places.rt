@@ -7,7 +7,7 @@ ghost use Rattle.sim51.specs.Places.{place_by, place_of, ArePlaces};
 
 use crate::code::byte_at;
 use cerco_base::{Label, NoMemory};
-use mcs51_isa::{cycles, decode, length, relative_target, Instr, LongJump};
+use mcs51_isa::{Instr, LongJump, cycles, decode, length, relative_target};
 use std::alloc::Global;
 
 /// An instruction, with what doesn't depend on the machine's state.

@@ -48,9 +48,23 @@ impl<'a> Model for Processor<'a> {
     ghost Value = { Core };
 
     ghost view = { λ p. record {
-        iram = p.iram; acc = p.acc; b = p.b; sp = p.sp; dpl = p.dpl; dph = p.dph;
-        cy = p.cy; ac = p.ac; f0 = p.f0; rs1 = p.rs1; rs0 = p.rs0; ov = p.ov; user = p.user;
-        ports = p.ports; rest = p.rest; xram = p.xram.items; script = p.script.now
+      iram = p.iram;
+      acc = p.acc;
+      b = p.b;
+      sp = p.sp;
+      dpl = p.dpl;
+      dph = p.dph;
+      cy = p.cy;
+      ac = p.ac;
+      f0 = p.f0;
+      rs1 = p.rs1;
+      rs0 = p.rs0;
+      ov = p.ov;
+      user = p.user;
+      ports = p.ports;
+      rest = p.rest;
+      xram = p.xram.items;
+      script = p.script.now;
     } };
 
     ghost invariant = { λ p. length p.xram.items ≡ 65536 };

@@ -71,7 +71,11 @@ impl<'a> Processor<'a> {
     {
         let (byte, read) = self.read(bit_location(bit));
         Executed {
-            pc: if bit_of(byte, bit % 8) { if_set } else { if_clear },
+            pc: if bit_of(byte, bit % 8) {
+                if_set
+            } else {
+                if_clear
+            },
             read,
             write: None,
         }

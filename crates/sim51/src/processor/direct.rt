@@ -2,7 +2,7 @@
 
 use super::Processor;
 use crate::executed::Executed;
-use crate::location::{location_of, Location};
+use crate::location::{Location, location_of};
 use crate::operations::{logical, stepped};
 use mcs51_isa::{Arith, Ind, Instr, Logic, Reg, StackOp, Step, Transfer};
 

@@ -2,7 +2,7 @@
 
 use super::Processor;
 use crate::executed::Executed;
-use mcs51_isa::{relative_target, Instr, LongJump, StackOp, Transfer};
+use mcs51_isa::{Instr, LongJump, StackOp, Transfer, relative_target};
 
 impl<'a> Processor<'a> {
     ghost use Rattle.std.specs.Prelude.{◌≡◌};

@@ -4,7 +4,7 @@ use super::Processor;
 use crate::executed::Executed;
 use crate::location::location_of;
 use crate::operations::stepped;
-use mcs51_isa::{relative_target, Addr11, FlagTest, Ind, Instr, LongJump, Reg, ReturnKind, Step};
+use mcs51_isa::{Addr11, FlagTest, Ind, Instr, LongJump, Reg, ReturnKind, Step, relative_target};
 
 impl<'a> Processor<'a> {
     ghost use Rattle.std.specs.Prelude.{◌≡◌, []};

@@ -1,7 +1,7 @@
 //! How locations, registers, internal RAM and the stack are read and written.
 
 use super::Processor;
-use crate::location::{bit_value, port_number, Location};
+use crate::location::{Location, bit_value, port_number};
 use cerco_base::Port;
 use mcs51_isa::{Ind, Reg};
 

@@ -1,6 +1,7 @@
 use Rattle.std.proofs.Common.{◌≡◌, ◌∙◌, ◌-◌, ℕ, List, ap, length, take, replicate, sym, refl}
 use Rattle.std.proofs.lemmas.List.{take_at}
 use Rattle.mcs51_isa.specs.Table.{encode_of}
+use Rattle.mcs51_isa.specs.Listing.{line_of}
 use Rattle.mcs51_isa.proofs.listing.line.Goals as goal
 
 pub returns : goal.returns
@@ -22,4 +23,4 @@ returns c =
       c.new-line.ensures,
       c.operands.ensures,
       c.encode-size.ensures.size,
-    ) refl
+    ) (refl {a = line_of c.args.at c.args.i})

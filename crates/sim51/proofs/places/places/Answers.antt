@@ -1,4 +1,4 @@
-use Rattle.std.proofs.Common.{◌≡◌, ◌<◌, ◌+◌, None, sym, subst, arith}
+use Rattle.std.proofs.Common.{◌<◌, ◌+◌, None, sym, subst, arith}
 use Rattle.std.proofs.lemmas.Option.{slice_get-get_or}
 use Rattle.sim51.proofs.Tables.{ArePlacesBelow, places_grow, all_places, no_places}
 use Rattle.sim51.proofs.places.places.Goals as goal

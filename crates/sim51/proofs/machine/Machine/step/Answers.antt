@@ -1,4 +1,4 @@
-use Rattle.std.proofs.Common.{◌≡◌, sym, ◌∙◌, ap, rules}
+use Rattle.std.proofs.Common.{◌∙◌, ap, rules}
 use Rattle.sim51.specs.Effect.{effect}
 use Rattle.sim51.proofs.Steps.{step_at, step_runs, step_in}
 use Rattle.sim51.proofs.machine.Machine.step.Goals as goal

@@ -1,4 +1,4 @@
-use Rattle.std.proofs.Common.{◌≡◌, List, ℕ, ap, replicate, true, false}
+use Rattle.std.proofs.Common.{◌≡◌, List, ℕ, ap, replicate}
 use Rattle.sim51.specs.State.{Core, reset_core}
 use Rattle.sim51.proofs.processor.Processor.reset.Goals as goal
 
