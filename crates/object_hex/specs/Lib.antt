@@ -1,3 +1,9 @@
 pub mod Digits
+pub mod HexAnswer
+pub mod HexMeaning
 pub mod HexText
+pub mod Lines
+pub mod MapMeaning
 pub mod MapText
+pub mod Reading
+pub mod Records
