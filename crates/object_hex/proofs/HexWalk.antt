@@ -28,7 +28,7 @@ pub record NextOf (all : List (List ℕ)) (number : ℕ) (line : List ℕ) (othe
   pub taken : take (suc number) all ≡ take number all ++ line ∷ []
   pub left : drop (suc number) all ≡ others
 
-next_line : (all : List (List ℕ)) (number : ℕ) (line : List ℕ) (others : List (List ℕ)) → drop number all ≡ line ∷ others → NextOf all number line others
+pub next_line : (all : List (List ℕ)) (number : ℕ) (line : List ℕ) (others : List (List ℕ)) → drop number all ≡ line ∷ others → NextOf all number line others
 next_line [] zero line others e = absurd (cc)
 next_line [] (suc number) line others e = absurd (cc)
 next_line (first ∷ more) zero line others e =

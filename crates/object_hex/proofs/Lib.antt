@@ -2,7 +2,9 @@ mod Raised
 mod HexWalk
 mod Lines
 mod Loops
+mod Addresses
 mod Behind
+mod Maps
 mod Places
 mod RecordForm
 mod Splits

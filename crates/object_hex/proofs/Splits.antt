@@ -73,7 +73,7 @@ without_cr-other (byte ∷ []) (suc n) len other = absurd (omega arith)
 without_cr-other (byte ∷ next ∷ more) zero len other = absurd (omega arith)
 without_cr-other (byte ∷ next ∷ more) (suc n) len other = ap (λ rest. byte ∷ rest) (without_cr-other (next ∷ more) n (omega arith) other)
 
-take-take-le : (n m : ℕ) (xs : List ℕ) → n ≤ m → take n (take m xs) ≡ take n xs
+pub take-take-le : {A : Type 0} → (n m : ℕ) (xs : List A) → n ≤ m → take n (take m xs) ≡ take n xs
 take-take-le zero m xs le = refl
 take-take-le (suc n) zero xs le = absurd (omega arith)
 take-take-le (suc n) (suc m) [] le = refl

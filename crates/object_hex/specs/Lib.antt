@@ -3,6 +3,7 @@ pub mod HexAnswer
 pub mod HexMeaning
 pub mod HexText
 pub mod Lines
+pub mod MapAnswer
 pub mod MapMeaning
 pub mod MapText
 pub mod Reading
