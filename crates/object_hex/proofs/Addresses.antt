@@ -38,9 +38,9 @@ refused_two : (digits : List ℕ) (error : FromHexError) (decoded : Result (List
 refused_two digits error (Ok bytes) e all =
     let found = decode_of-ok digits bytes all in
     word_of-other bytes (λ two.
-      let sized : decode_sized digits 2 ≡ Ok bytes = decode_sized-twice digits 2 (omega arith) ∙ all in
-      let apart : Err error ≡ Ok bytes = sym e ∙ sized in
-      absurd (cc))
+    let sized : decode_sized digits 2 ≡ Ok bytes = decode_sized-twice digits 2 (omega arith) ∙ all in
+    let apart : Err error ≡ Ok bytes = sym e ∙ sized in
+    absurd (cc))
 refused_two digits error (Err other) e all = refl
 
 -- what decoding into two bytes answered, next to what the digits decode to

@@ -39,11 +39,11 @@ next_line (first ∷ more) (suc number) line others e =
     let next = next_line more number line others e in
     record { here = next.here; taken = ap (λ l. first ∷ l) next.taken; left = next.left }
 
-fault-line : (ls : List (List ℕ)) (place : ℕ) (line : List ℕ) → slice_get ls place ≡ Some line → fault_at ls place ≡ fault_behind (take place ls) line
+pub fault-line : (ls : List (List ℕ)) (place : ℕ) (line : List ℕ) → slice_get ls place ≡ Some line → fault_at ls place ≡ fault_behind (take place ls) line
 unfolding fault_at
 fault-line ls place line here = ap (fault_here ls place) here
 
-fault-end : (ls : List (List ℕ)) (place : ℕ) (ended : Bool) → slice_get ls place ≡ None → has_end ls ≡ ended → fault_at ls place ≡ cond ended None (Some NoEnd)
+pub fault-end : (ls : List (List ℕ)) (place : ℕ) (ended : Bool) → slice_get ls place ≡ None → has_end ls ≡ ended → fault_at ls place ≡ cond ended None (Some NoEnd)
 unfolding fault_at
 fault-end ls place ended past ends = ap (fault_here ls place) past ∙ ap (λ e. cond e None (Some NoEnd)) ends
 

@@ -74,9 +74,9 @@ front_of ls addresses n given =
     record {
       count = long ∙ ap (min n) count ∙ sym lines_long;
       each = λ label within.
-        ap (address_in label) (get_or-take n ls label [] (omega arith)) ∙ given.each label (omega arith) ∙ ap Some (sym (get_or-take n addresses label 0 (omega arith)));
+          ap (address_in label) (get_or-take n ls label [] (omega arith)) ∙ given.each label (omega arith) ∙ ap Some (sym (get_or-take n addresses label 0 (omega arith)));
       apart = λ earlier later before within equal. given.apart earlier later before (omega arith)
-        (sym (get_or-take n addresses earlier 0 (omega arith)) ∙ equal ∙ get_or-take n addresses later 0 (omega arith));
+          (sym (get_or-take n addresses earlier 0 (omega arith)) ∙ equal ∙ get_or-take n addresses later 0 (omega arith));
     }
 
 -- one more line that gives a new address
@@ -107,6 +107,7 @@ one_more ls addresses line next given here fresh =
     front_at [] x d k within = absurd (omega arith)
     front_at (y ∷ xs) x d zero within = refl
     front_at (y ∷ xs) x d (suc k) within = front_at xs x d k (omega arith)
+
     last_at : {A : Type 0} → (xs : List A) (x d : A) → get_or (xs ++ x ∷ []) (length xs) d ≡ x
     last_at [] x d = refl
     last_at (y ∷ xs) x d = last_at xs x d
@@ -132,6 +133,7 @@ none_more ls addresses line given old other also =
     early_line [] line k within = absurd (omega arith)
     early_line (first ∷ more) line zero within = refl
     early_line (first ∷ more) line (suc k) within = early_line more line k (omega arith)
+
     last_line : (ls : List (List ℕ)) (line : List ℕ) → get_or (ls ++ line ∷ []) (length ls) [] ≡ line
     last_line [] line = refl
     last_line (first ∷ more) line = last_line more line
@@ -189,8 +191,8 @@ map_walked_bad text rest behind line number addresses seen walked split old =
       before = addresses;
       right_before = walked.given;
       bad = λ other also.
-        let Also : List (List ℕ) → Type 0 = λ ls. IsMapOf ls other in
-        none_more (take number (lines text)) addresses line walked.given
+          let Also : List (List ℕ) → Type 0 = λ ls. IsMapOf ls other in
+          none_more (take number (lines text)) addresses line walked.given
           (λ next at. let seen_once = old next (ap (λ n. address_in n line) (sym long) ∙ at) in sym (walked.marked next seen_once.0) ∙ seen_once.1)
           other (subst Also (ap (λ n. take n (lines text)) one ∙ following.taken) also);
     }
@@ -231,9 +233,9 @@ one_map text xs ys of_xs of_ys =
     let long = of_xs.count in
     let also = of_ys.count in
     ext_get_or 0 xs ys (omega arith) (λ k within.
-      let each : Some (get_or xs k 0) ≡ Some (get_or ys k 0) = sym (of_xs.each k within) ∙ of_ys.each k (omega arith) in
-      let same : get_or xs k 0 ≡ get_or ys k 0 = cc in
-      same)
+    let each : Some (get_or xs k 0) ≡ Some (get_or ys k 0) = sym (of_xs.each k within) ∙ of_ys.each k (omega arith) in
+    let same : get_or xs k 0 ≡ get_or ys k 0 = cc in
+    same)
 
 pub map_answer_right : (text addresses : List ℕ) → IsMapText text addresses → IsMapAnswer text (Ok addresses)
 map_answer_right text addresses means = record {

@@ -13,10 +13,10 @@ use Rattle.object_hex.specs.declared.reading.faults.HexKind.{HexKind}
 use Rattle.object_hex.specs.declared.reading.faults.HexKind.TheVariants.{Range, Twice}
 use Rattle.object_hex.specs.Reading.{Holds}
 
-byte_at-within : (offset : ℕ) (bytes : List ℕ) (address : ℕ) → offset ≤ address → byte_at offset bytes address ≡ slice_get bytes (address - offset)
+pub byte_at-within : (offset : ℕ) (bytes : List ℕ) (address : ℕ) → offset ≤ address → byte_at offset bytes address ≡ slice_get bytes (address - offset)
 byte_at-within offset bytes address le = grind (arith, nat_tests)
 
-byte_at-below : (offset : ℕ) (bytes : List ℕ) (address : ℕ) → address < offset → byte_at offset bytes address ≡ None
+pub byte_at-below : (offset : ℕ) (bytes : List ℕ) (address : ℕ) → address < offset → byte_at offset bytes address ≡ None
 byte_at-below offset bytes address lt = grind (arith, nat_tests)
 
 slice_get-take : (n k : ℕ) (xs : List ℕ) → k < n → slice_get (take n xs) k ≡ slice_get xs k
@@ -108,6 +108,6 @@ code_held ls places reach holds reaches bounded whole =
     let count : length (take reach places) ≡ reach = length-take-le reach places (omega arith) in
     let long : length bytes ≡ reach = length-map (take reach places) (λ place. unwrap_or place 0) ∙ count in
     fill_by_all (λ address. unwrap_or (given ls address) 0) bytes reach 0 long
-      (λ address within. get_or-map (λ place. unwrap_or place 0) (take reach places) address None 0 (omega arith)
-        ∙ ap (λ place. unwrap_or place 0) (get_or-take reach places address None within ∙ holds address (omega arith)))
+    (λ address within. get_or-map (λ place. unwrap_or place 0) (take reach places) address None 0 (omega arith)
+    ∙ ap (λ place. unwrap_or place 0) (get_or-take reach places address None within ∙ holds address (omega arith)))
     ∙ ap (λ n. map (λ address. unwrap_or (given ls address) 0) (range_with_len 0 n)) reaches

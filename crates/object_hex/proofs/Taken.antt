@@ -21,7 +21,7 @@ pub fault_after : (before : List (List ℕ)) (line : List ℕ) → has_end befor
 unfolding fault_behind
 fault_after before line ended = ap (λ ends. cond ends (Some After) (fault_of (given before) (record_in line))) ended
 
-fault_open : (before : List (List ℕ)) (line : List ℕ) (said : Result HexRecord HexKind) → has_end before ≡ false → record_in line ≡ said → fault_behind before line ≡ fault_of (given before) said
+pub fault_open : (before : List (List ℕ)) (line : List ℕ) (said : Result HexRecord HexKind) → has_end before ≡ false → record_in line ≡ said → fault_behind before line ≡ fault_of (given before) said
 unfolding fault_behind
 fault_open before line said ended says = ap₂ (λ ends here. cond ends (Some After) (fault_of (given before) here)) ended says
 
@@ -29,7 +29,7 @@ pub fault_form : (before : List (List ℕ)) (line : List ℕ) → has_end before
 unfolding record_in
 fault_form before line ended none = fault_open before line (Err Form) ended (ap from_bytes none)
 
-record_in-bytes : (line bytes : List ℕ) (type : Result RecordType HexKind) → record_bytes line ≡ Some bytes → type_of bytes ≡ type → record_in line ≡ with_type bytes type
+pub record_in-bytes : (line bytes : List ℕ) (type : Result RecordType HexKind) → record_bytes line ≡ Some bytes → type_of bytes ≡ type → record_in line ≡ with_type bytes type
 unfolding record_in
 record_in-bytes line bytes type form e = ap from_bytes form ∙ ap (with_type bytes) e
 
@@ -73,22 +73,22 @@ taken_none before line bytes type places reach earlier ended taking right none f
     record_in-bytes line bytes (Ok type) taking.form right ∙ ap (λ (all : List ℕ). Ok (record { type = type; offset = offset_of bytes; bytes = all })) none in
     let stays : highest_end before ≡ max (highest_end before) 0 = omega arith in
     taken_right before line said places reach ended taking.open_yet says fits
-      (λ address within. state.holds address within ∙ sym (ap (λ here. option_or here (given before address)) (byte_at-nil (offset_of bytes) address)))
-      (state.reaches ∙ stays) ends
+    (λ address within. state.holds address within ∙ sym (ap (λ here. option_or here (given before address)) (byte_at-nil (offset_of bytes) address)))
+    (state.reaches ∙ stays) ends
 
 -- a data record
 pub taken_data : (before : List (List ℕ)) (line bytes : List ℕ) (offset : ℕ) (loads : List ℕ) (old new : List (Option ℕ)) (from to : ℕ) (ended : Bool) (result : Result (Unit {0}) HexKind) → Taking before line bytes → type_of bytes ≡ Ok Data → offset ≡ offset_of bytes → loads ≡ data_of bytes → IsReadUpTo before old from ended
     → MatchResult result
-      (λ _. (load_fault (given before) offset loads ≡ None)
-        × Holds new (λ address. option_or (byte_at offset loads address) (given before address))
-        × (to ≡ max from (if length loads == 0 then 0 else offset + length loads)))
-      (λ kind. load_fault (given before) offset loads ≡ Some kind)
+    (λ _. (load_fault (given before) offset loads ≡ None)
+    × Holds new (λ address. option_or (byte_at offset loads address) (given before address))
+    × (to ≡ max from (if length loads == 0 then 0 else offset + length loads)))
+    (λ kind. load_fault (given before) offset loads ≡ Some kind)
     → MatchResult result (λ _. TakenTo before line new to ended) (λ kind. fault_behind before line ≡ Some kind)
 taken_data before line bytes offset loads old new from to ended (Ok u) taking right at these state loaded_now =
     let said : HexRecord = record { type = Data; offset = offset; bytes = loads } in
     taken_right before line said new to ended taking.open_yet (data_says before line bytes offset loads taking right at these) loaded_now.0 loaded_now.1
-      (loaded_now.2 ∙ ap (λ reach. max reach (if length loads == 0 then 0 else offset + length loads)) state.reaches)
-      (state.ends ∙ taking.open_yet)
+    (loaded_now.2 ∙ ap (λ reach. max reach (if length loads == 0 then 0 else offset + length loads)) state.reaches)
+    (state.ends ∙ taking.open_yet)
 taken_data before line bytes offset loads old new from to ended (Err kind) taking right at these state bad =
     let said : HexRecord = record { type = Data; offset = offset; bytes = loads } in
     fault_open before line (Ok said) taking.open_yet (data_says before line bytes offset loads taking right at these) ∙ bad

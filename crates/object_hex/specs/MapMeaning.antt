@@ -34,12 +34,16 @@ behind_blank (Some bytes) = in_digits (behind (codes " ") bytes)
 unfoldable pub address_in : ℕ → List ℕ → Option ℕ
 address_in label line = behind_blank (behind (decimal label) line)
 
+-- no address is among others twice
+abbrev pub AreDistinct : List ℕ → Type 0
+AreDistinct addresses = (earlier later : ℕ) → earlier < later → later < length addresses → slice_index addresses earlier ≢ slice_index addresses later
+
 -- lines that give the addresses of labels: one line for each label, by its number counted from 0, and no
 -- address twice
 pub record IsMapOf (ls : List (List ℕ)) (addresses : List ℕ) : Type 0 where
   pub count : length addresses ≡ length ls
   pub each : (label : ℕ) → label < length addresses → address_in label (slice_index_or ls label []) ≡ Some (slice_index addresses label)
-  pub apart : (earlier later : ℕ) → earlier < later → later < length addresses → slice_index addresses earlier ≢ slice_index addresses later
+  pub apart : AreDistinct addresses
 
 -- a text whose lines give these addresses
 abbrev pub IsMapText : List ℕ → List ℕ → Type 0

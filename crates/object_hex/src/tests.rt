@@ -85,19 +85,46 @@ fn a_cut_text_is_refused(rt: HostRuntime) -> Result<(), Fail> {
 #[test]
 fn a_bad_line_is_named(rt: HostRuntime) -> Result<(), Fail> {
     let alloc = rt.alloc();
-    assert_eq!(rt; fault_of(alloc, b"x\n:00000001FF\n"), Some((1, HexKind::Form)));
-    assert_eq!(rt; fault_of(alloc, b"\n:00000001FF\n"), Some((1, HexKind::Form)));
-    assert_eq!(rt; fault_of(alloc, b":00000001FFF\n:00000001FF\n"), Some((1, HexKind::Form)));
-    assert_eq!(rt; fault_of(alloc, b":020000040000F9\n:00000001FF\n"), Some((1, HexKind::Sum)));
-    assert_eq!(rt; fault_of(alloc, b":00000005FB\n:00000001FF\n"), Some((1, HexKind::Type)));
-    assert_eq!(rt; fault_of(alloc, b":0100000400FB\n:00000001FF\n"), Some((1, HexKind::Upper)));
-    assert_eq!(rt; fault_of(alloc, b":01000001AA54\n:00000001FF\n"), Some((1, HexKind::End)));
-    assert_eq!(rt; fault_of(alloc, b":02FFFF00000000\n:00000001FF\n"), Some((1, HexKind::Range)));
+    assert_eq!(rt;
+        fault_of(alloc, b"x\n:00000001FF\n"),
+        Some((1, HexKind::Form))
+    );
+    assert_eq!(rt;
+        fault_of(alloc, b"\n:00000001FF\n"),
+        Some((1, HexKind::Form))
+    );
+    assert_eq!(rt;
+        fault_of(alloc, b":00000001FFF\n:00000001FF\n"),
+        Some((1, HexKind::Form))
+    );
+    assert_eq!(rt;
+        fault_of(alloc, b":020000040000F9\n:00000001FF\n"),
+        Some((1, HexKind::Sum))
+    );
+    assert_eq!(rt;
+        fault_of(alloc, b":00000005FB\n:00000001FF\n"),
+        Some((1, HexKind::Type))
+    );
+    assert_eq!(rt;
+        fault_of(alloc, b":0100000400FB\n:00000001FF\n"),
+        Some((1, HexKind::Upper))
+    );
+    assert_eq!(rt;
+        fault_of(alloc, b":01000001AA54\n:00000001FF\n"),
+        Some((1, HexKind::End))
+    );
+    assert_eq!(rt;
+        fault_of(alloc, b":02FFFF00000000\n:00000001FF\n"),
+        Some((1, HexKind::Range))
+    );
     assert_eq!(rt;
         fault_of(alloc, b":0100000001FE\n:0100000001FE\n:00000001FF\n"),
         Some((2, HexKind::Twice))
     );
-    assert_eq!(rt; fault_of(alloc, b":00000001FF\n:00000001FF\n"), Some((2, HexKind::After)));
+    assert_eq!(rt;
+        fault_of(alloc, b":00000001FF\n:00000001FF\n"),
+        Some((2, HexKind::After))
+    );
     Ok(())
 }
 

@@ -1,11 +1,13 @@
 //! The reader of an object's code.
 ghost use Rattle.std.specs.Prelude.{◌≡◌, ℕ, ◌≤◌, ◌⊎◌, length, List, Ok, Err, Some, None, [], ◌++◌, ◌∷◌, IfOk, MatchResult};
-ghost use Rattle.object_hex.specs.HexAnswer.{IsHexAnswer};
+ghost use Rattle.object_hex.specs.HexAnswer.{IsHexAnswer, ReadsBack};
 
 use crate::reading::faults::{HexError, HexFault, HexKind};
 use crate::reading::image::Image;
 use crate::reading::line::split_line;
-use crate::reading::record::{MOST_IN_RECORD, RecordType, data_in, offset_in, read_record, record_type};
+use crate::reading::record::{
+    MOST_IN_RECORD, RecordType, data_in, offset_in, read_record, record_type,
+};
 use cerco_base::Code;
 use std::alloc::{AllocError, Global};
 
@@ -37,9 +39,9 @@ impl HexReader {
         ensures { (before : List (List ℕ)) (line : List ℕ) → record_bytes line ≡ Some bytes.now → has_end before ≡ false
             → IsReadUpTo before self.old.image.places.items self.old.image.reach self.old.ended
             → MatchResult result
-                (λ _. (fault_behind before line ≡ None)
-                    × IsReadUpTo (before ++ line ∷ []) self.new.image.places.items self.new.image.reach self.new.ended)
-                (λ kind. fault_behind before line ≡ Some kind) }
+            (λ _. (fault_behind before line ≡ None)
+            × IsReadUpTo (before ++ line ∷ []) self.new.image.places.items self.new.image.reach self.new.ended)
+            (λ kind. fault_behind before line ≡ Some kind) }
     {
         let kind = record_type(bytes)?;
         let offset = offset_in(bytes);
@@ -57,9 +59,9 @@ impl HexReader {
     fn take_line(&mut self, line: &[u8]) -> Result<(), HexKind>
         ensures { (before : List (List ℕ)) → IsReadUpTo before self.old.image.places.items self.old.image.reach self.old.ended
             → MatchResult result
-                (λ _. (fault_behind before line.now ≡ None)
-                    × IsReadUpTo (before ++ line.now ∷ []) self.new.image.places.items self.new.image.reach self.new.ended)
-                (λ kind. fault_behind before line.now ≡ Some kind) }
+            (λ _. (fault_behind before line.now ≡ None)
+            × IsReadUpTo (before ++ line.now ∷ []) self.new.image.places.items self.new.image.reach self.new.ended)
+            (λ kind. fault_behind before line.now ≡ Some kind) }
     {
         if self.ended {
             return Err(HexKind::After);
@@ -80,7 +82,8 @@ impl HexReader {
 /// The first bad line of a text that is no hex text, or want of memory.
 pub fn read_hex(alloc: Global, text: &[u8]) -> Result<Code, HexError>
     requires { length text.now ≤ 4294967294 }
-    ensures { IsHexAnswer text.now result }
+    ensures answer { IsHexAnswer text.now result }
+    ensures written { ReadsBack text.now result }
 {
     let mut reader = HexReader::new(alloc)?;
     let mut rest = text;
@@ -88,7 +91,10 @@ pub fn read_hex(alloc: Global, text: &[u8]) -> Result<Code, HexError>
     while !rest.is_empty() {
         let (line, behind) = split_line(rest);
         if let Err(kind) = reader.take_line(line) {
-            return Err(HexError::Fault(HexFault { line: number + 1, kind }));
+            return Err(HexError::Fault(HexFault {
+                line: number + 1,
+                kind,
+            }));
         }
         rest = behind;
         number += 1;

@@ -47,7 +47,9 @@ impl Image {
         requires { offset + count ≤ 65536 }
         ensures { result ≡ list_any is_some (slice_range self.now.places.items offset (offset + count)) }
     {
-        self.places[offset..offset + count].iter().any(|place| place.is_some())
+        self.places[offset..offset + count]
+            .iter()
+            .any(|place| place.is_some())
     }
 
     // Puts bytes from an offset on.
@@ -74,8 +76,8 @@ impl Image {
         requires { offset + length bytes.now < 4294967296 }
         ensures { (before : ℕ → Option ℕ) → Holds self.old.places.items before → MatchResult result
             (λ _. (load_fault before offset bytes.now ≡ None)
-                × Holds self.new.places.items (λ address. option_or (byte_at offset bytes.now address) (before address))
-                × (self.new.reach ≡ max self.old.reach (if length bytes.now == 0 then 0 else offset + length bytes.now)))
+            × Holds self.new.places.items (λ address. option_or (byte_at offset bytes.now address) (before address))
+            × (self.new.reach ≡ max self.old.reach (if length bytes.now == 0 then 0 else offset + length bytes.now)))
             (λ kind. load_fault before offset bytes.now ≡ Some kind) }
     {
         if offset + bytes.len() > CODE_BYTES {

@@ -1,7 +1,7 @@
 //! The reader of the addresses of an object's labels.
 ghost use Rattle.std.specs.Prelude.{◌≡◌, ℕ, ◌<◌, ◌≤◌, length, slice_index_or, slice_set, vec_len, false, true, Some, MatchOption, IfOk, ◌+◌, ◌*◌, slice_index};
 ghost use Rattle.hex.specs.Hex.{decode_of};
-ghost use Rattle.object_hex.specs.MapAnswer.{IsMapAnswer};
+ghost use Rattle.object_hex.specs.MapAnswer.{IsMapAnswer, ReadsBack};
 ghost use Rattle.object_hex.specs.MapMeaning.{address_in, word_of};
 
 use crate::reading::faults::{MapError, MapFault};
@@ -57,10 +57,10 @@ fn take_line(label: usize, line: &[u8], seen: &mut Vec<bool>) -> Option<u16>
     ensures length { vec_len seen.new ≡ 65536 }
     ensures taken { MatchOption result
         ((address : ℕ) → address_in label line.now ≡ Some address
-            → (address < 65536) × (slice_index_or seen.old.items address false ≡ true))
+        → (address < 65536) × (slice_index_or seen.old.items address false ≡ true))
         (λ address. (address < 65536) × (address_in label line.now ≡ Some address)
-            × (slice_index_or seen.old.items address false ≡ false)
-            × (seen.new.items ≡ slice_set seen.old.items address true)) }
+        × (slice_index_or seen.old.items address false ≡ false)
+        × (seen.new.items ≡ slice_set seen.old.items address true)) }
 {
     let address = address_in(label, line)?;
     let place = usize::from(address);
@@ -79,7 +79,8 @@ fn take_line(label: usize, line: &[u8], seen: &mut Vec<bool>) -> Option<u16>
 /// The first bad line of a text that is none, or want of memory.
 pub fn read_map(alloc: Global, text: &[u8]) -> Result<LabelList, MapError>
     requires { length text.now ≤ 4294967294 }
-    ensures { IsMapAnswer text.now result }
+    ensures answer { IsMapAnswer text.now result }
+    ensures written { ReadsBack text.now result }
 {
     let mut seen = no_marks(alloc, ADDRESSES)?;
     let mut labels = LabelList::new(alloc);

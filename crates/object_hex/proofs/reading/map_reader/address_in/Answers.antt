@@ -16,9 +16,9 @@ returns-in_err-digits c =
     let number : c.as_bytes.result.now ≡ decimal c.args.label = c.as_bytes.ensures.value ∙ c.format.ensures.text in
     let it = rw number at c.in_ok-rest.ensures.cases in
     rw c.from_residual-in_err-digits.ensures (sym (
-      ap behind_blank (behind-is (decimal c.args.label) c.args.line.now it.0)
-      ∙ ap (λ bytes. in_digits (behind (codes " ") bytes)) (sym it.1)
-      ∙ ap in_digits (behind-not (codes " ") c.in_ok-rest.rest.now c.in_err-digits.ensures.cases)))
+    ap behind_blank (behind-is (decimal c.args.label) c.args.line.now it.0)
+    ∙ ap (λ bytes. in_digits (behind (codes " ") bytes)) (sym it.1)
+    ∙ ap in_digits (behind-not (codes " ") c.in_ok-rest.rest.now c.in_err-digits.ensures.cases)))
 
 pub returns : goal.returns
 unfolding address_in
@@ -27,7 +27,7 @@ returns c =
     let it = rw number at c.in_ok-rest.ensures.cases in
     let blank = c.in_ok-digits.ensures.cases in
     c.address_of.ensures ∙ sym (
-      ap behind_blank (behind-is (decimal c.args.label) c.args.line.now it.0)
-      ∙ ap (λ bytes. in_digits (behind (codes " ") bytes)) (sym it.1)
-      ∙ ap in_digits (behind-is (codes " ") c.in_ok-rest.rest.now blank.0)
-      ∙ ap (λ digits. in_digits (Some digits)) (sym blank.1))
+    ap behind_blank (behind-is (decimal c.args.label) c.args.line.now it.0)
+    ∙ ap (λ bytes. in_digits (behind (codes " ") bytes)) (sym it.1)
+    ∙ ap in_digits (behind-is (codes " ") c.in_ok-rest.rest.now blank.0)
+    ∙ ap (λ digits. in_digits (Some digits)) (sym blank.1))

@@ -16,18 +16,18 @@ pub returns-in-Data : goal.returns-in-Data
 returns-in-Data c = λ before line form open_yet state.
     let right : type_of c.args.bytes.now ≡ Ok Data = sym c.in_ok-kind.ensures ∙ ap Ok c.in-Data.is in
     taken_data before line c.args.bytes.now c.offset_in-offset.result c.data_in.result.now c.args.self.now.image.places.items c.load.new.self.places.items c.args.self.now.image.reach c.load.new.self.reach c.args.self.now.ended c.load.result
-      (record { form = form; open_yet = open_yet }) right c.offset_in-offset.ensures.value c.data_in.ensures state (c.load.ensures (given before) state.holds)
+    (record { form = form; open_yet = open_yet }) right c.offset_in-offset.ensures.value c.data_in.ensures state (c.load.ensures (given before) state.holds)
 
 pub returns-in-EndOfFile : goal.returns-in-EndOfFile
 returns-in-EndOfFile c = λ before line form open_yet state.
     let right : type_of c.args.bytes.now ≡ Ok EndOfFile = sym c.in_ok-kind.ensures ∙ ap Ok c.in-EndOfFile.is in
     let small : offset_of c.args.bytes.now + 0 ≤ 65536 = omega (arith, c.offset_in-offset.ensures.value, c.offset_in-offset.ensures.small) in
     taken_none before line c.args.bytes.now EndOfFile _ _ c.args.self.now.ended _ (record { form = form; open_yet = open_yet }) right refl
-      (load_fault-none (given before) (offset_of c.args.bytes.now) [] small refl) state refl
+    (load_fault-none (given before) (offset_of c.args.bytes.now) [] small refl) state refl
 
 pub returns-in-UpperAddress : goal.returns-in-UpperAddress
 returns-in-UpperAddress c = λ before line form open_yet state.
     let right : type_of c.args.bytes.now ≡ Ok UpperAddress = sym c.in_ok-kind.ensures ∙ ap Ok c.in-UpperAddress.is in
     let small : offset_of c.args.bytes.now + 0 ≤ 65536 = omega (arith, c.offset_in-offset.ensures.value, c.offset_in-offset.ensures.small) in
     taken_none before line c.args.bytes.now UpperAddress _ _ c.args.self.now.ended _ (record { form = form; open_yet = open_yet }) right refl
-      (load_fault-none (given before) (offset_of c.args.bytes.now) [] small refl) state (state.ends ∙ open_yet)
+    (load_fault-none (given before) (offset_of c.args.bytes.now) [] small refl) state (state.ends ∙ open_yet)

@@ -17,8 +17,7 @@ returns c = λ before holds.
     let image = c.args.self.now in
     let whole : length image.places.items ≡ 65536 = omega (arith, image.whole, image.places.ok.0) in
     let there = some_in_range before image.places.items c.args.offset c.args.bytes.now holds whole (omega arith) in
-    let once : has_some before c.args.offset c.args.bytes.now ≡ false = sym there ∙ sym c.has_some.ensures ∙ c.if-has_some.false in
-    (
+    let once : has_some before c.args.offset c.args.bytes.now ≡ false = sym there ∙ sym c.has_some.ensures ∙ c.if-has_some.false in (
       load_fault-none before c.args.offset c.args.bytes.now (omega arith) once,
       λ address within. c.put.ensures.put address ∙ ap (option_or (byte_at c.args.offset c.args.bytes.now address)) (holds address within),
       c.put.ensures.reach,
