@@ -13,3 +13,4 @@ mod Splits
 mod Taken
 mod Written
 pub mod Examples
+pub mod ReadExamples

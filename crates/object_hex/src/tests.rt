@@ -133,7 +133,51 @@ fn records_come_in_any_order_and_either_case(rt: HostRuntime) -> Result<(), Fail
     let text = b":020000040000FA\r\n:01000500ab4F\r\n:01000200CD30\r\n:00000001ff";
     let code = read_hex(rt.alloc(), text)?;
     assert_eq!(rt; code.as_slice(), [0, 0, 0xCD, 0, 0, 0xAB].as_slice());
-    let mut hex = SoundSink::new(rt.alloc());
-    write_hex(&[0xA0; 17], &mut hex)?;
+    // A CR that no LF follows is a byte of its line.
+    assert_eq!(rt;
+        fault_of(rt.alloc(), b":00000001FF\r"),
+        Some((1, HexKind::Form))
+    );
+    assert_eq!(rt;
+        fault_of(rt.alloc(), b":00000001FF\n\n"),
+        Some((2, HexKind::After))
+    );
+    assert_eq!(rt;
+        fault_of(rt.alloc(), b":020000040001F9\n"),
+        Some((1, HexKind::Upper))
+    );
+    Ok(())
+}
+
+#[test]
+fn seventeen_bytes_are_read_back(rt: HostRuntime) -> Result<(), Fail> {
+    let text = b":10000000A0A0A0A0A0A0A0A0A0A0A0A0A0A0A0A0F0\n:01001000A04F\n:00000001FF\n";
+    let code = read_hex(rt.alloc(), text)?;
+    assert_eq!(rt; code.as_slice(), [0xA0; 17].as_slice());
+    Ok(())
+}
+
+// The first bad line of a text of label addresses.
+fn bad_line_of(alloc: Global, text: &[u8]) -> Option<u32>
+    requires { length text.now ≤ 4294967294 }
+{
+    match read_map(alloc, text) {
+        Err(MapError::Fault(fault)) => Some(fault.line),
+        _ => None,
+    }
+}
+
+#[test]
+fn label_addresses_are_read(rt: HostRuntime) -> Result<(), Fail> {
+    let labels = read_map(rt.alloc(), b"0 0008\r\n1 ffFF")?;
+    assert_eq!(rt; labels.as_slice(), [8, 0xFFFF].as_slice());
+    let none = read_map(rt.alloc(), b"")?;
+    assert_eq!(rt; none.as_slice().len(), 0);
+    assert_eq!(rt; bad_line_of(rt.alloc(), b"0 0008\n1 0008\n"), Some(2));
+    assert_eq!(rt; bad_line_of(rt.alloc(), b"0 0008\n01 0009\n"), Some(2));
+    assert_eq!(rt; bad_line_of(rt.alloc(), b"1 0008\n"), Some(1));
+    assert_eq!(rt; bad_line_of(rt.alloc(), b"0 0008\n\n"), Some(2));
+    assert_eq!(rt; bad_line_of(rt.alloc(), b"0  0008\n"), Some(1));
+    assert_eq!(rt; bad_line_of(rt.alloc(), b"0 00008\n"), Some(1));
     Ok(())
 }
