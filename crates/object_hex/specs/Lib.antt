@@ -1,3 +1,10 @@
 pub mod Digits
+pub mod HexAnswer
+pub mod HexMeaning
 pub mod HexText
+pub mod Lines
+pub mod MapAnswer
+pub mod MapMeaning
 pub mod MapText
+pub mod Reading
+pub mod Records

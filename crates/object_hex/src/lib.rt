@@ -5,9 +5,11 @@
 mod digits;
 mod hex_text;
 mod map_text;
+mod reading;
 
 pub use hex_text::write_hex;
 pub use map_text::write_map;
+pub use reading::{HexError, HexFault, HexKind, MapError, MapFault, read_hex, read_map};
 
 #[cfg(test)]
 mod tests;
