@@ -1,9 +1,9 @@
 -- What lines give with one more line behind them.
-use Rattle.std.proofs.Common.{◌≡◌, ℕ, zero, suc, ◌+◌, ◌<◌, ◌≤◌, max, Bool, true, false, cond, List, [], ◌∷◌, ◌++◌, length, take, drop, Option, Some, None, refl, ap, ap₂, sym, ◌∙◌, arith}
-use Rattle.std.specs.Prelude.{◌||◌, ◌==◌, slice_get, Result, Ok, Err, if◌then◌else◌}
+use Rattle.std.proofs.Common.{◌≡◌, ℕ, max, Bool, true, false, List, [], ◌∷◌, ◌++◌, Option, Some, None, refl, ap, sym, ◌∙◌, arith}
+use Rattle.std.specs.Prelude.{◌||◌}
 use Rattle.std.specs.Option.{option_or}
-use Rattle.object_hex.specs.Records.{HexRecord, record_in}
-use Rattle.object_hex.specs.HexMeaning.{byte_in, byte_at, end_in, ends_file, given, highest_end, has_end}
+use Rattle.object_hex.specs.Records.{record_in}
+use Rattle.object_hex.specs.HexMeaning.{byte_in, end_in, ends_file, given, highest_end, has_end}
 
 or-none : (x : Option ℕ) → option_or x None ≡ x
 or-none (Some x) = refl

@@ -1,20 +1,19 @@
 -- A text that was written for a code is a hex text of it.
-use Rattle.std.proofs.Common.{◌≡◌, ℕ, zero, suc, ◌+◌, ◌-◌, ◌*◌, ◌/◌, ◌%◌, ◌<◌, ◌≤◌, min, max, Bool, true, false, cond, eqb, List, [], ◌∷◌, ◌++◌, length, take, drop, get_or, map, slice_index, codes, Option, Some, None, is_some, unwrap_or, sum, refl, ap, ap₂, sym, subst, ◌∙◌, ◌⊎◌, inl, inr, arith, append_assoc}
-use Rattle.std.specs.Prelude.{◌==◌, ◌||◌, slice_get, Result, Ok, Err}
+use Rattle.std.proofs.Common.{◌≡◌, ℕ, zero, suc, ◌+◌, ◌-◌, ◌*◌, ◌/◌, ◌%◌, ◌<◌, ◌≤◌, min, max, true, false, cond, eqb, List, [], ◌∷◌, ◌++◌, length, take, drop, get_or, map, Option, Some, None, is_some, unwrap_or, sum, refl, ap, ap₂, sym, subst, ◌∙◌, inl, inr, arith, append_assoc}
+use Rattle.std.specs.Prelude.{◌||◌, slice_get, Result, Ok, Err}
 use Rattle.std.specs.Int.{div_ceil}
-use Rattle.std.specs.List.{flat_map, range_with_len, sum_by}
+use Rattle.std.specs.List.{flat_map, range_with_len}
 use Rattle.std.specs.Option.{option_or}
 use Rattle.std.proofs.lemmas.Bool.{cases_lt, eq-eqb}
 use Rattle.std.proofs.lemmas.Bool.Decides.{eqb_tells}
 use Rattle.std.proofs.lemmas.Grind.{div_ceil_times}
-use Rattle.std.proofs.lemmas.List.{append-nil, get_or_past, get_or-take, get_or-drop, length-append, length-drop, length-take, length-take-le, take_all}
+use Rattle.std.proofs.lemmas.List.{append-nil, get_or_past, get_or-take, get_or-drop, length-append, length-drop, length-take}
 use Rattle.std.proofs.lemmas.List.FromFn.{fill_by_all}
 use Rattle.std.proofs.lemmas.List.Sums.{sum_by-append}
-use Rattle.std.proofs.lemmas.Option.{slice_get-get_or, slice_get_past, unwrap_or-slice_get}
+use Rattle.std.proofs.lemmas.Option.{slice_get-get_or, slice_get_past}
 use Rattle.std.proofs.Math.Seq.{take-append_seam}
-use Rattle.hex.specs.Hex.{IsBytes, decode_of}
+use Rattle.hex.specs.Hex.{IsBytes}
 use Rattle.hex.proofs.HexLemmas.{decode_of-encode_upper}
-use Rattle.object_hex.specs.declared.reading.faults.HexKind.{HexKind}
 use Rattle.object_hex.specs.declared.reading.faults.HexKind.TheVariants.{Sum}
 use Rattle.object_hex.specs.declared.reading.faults.HexError.{HexError}
 use Rattle.object_hex.specs.declared.reading.record.RecordType.{RecordType}
@@ -23,7 +22,7 @@ use Rattle.object_hex.specs.Digits.{pairs}
 use Rattle.object_hex.specs.HexText.{checksum, contents, data_line, end_line, hex_text, record_line}
 use Rattle.object_hex.specs.Lines.{lines}
 use Rattle.object_hex.specs.Records.{HexRecord, data_of, loaded, of_its_length, offset_of, record_bytes, record_in, type_of, typed}
-use Rattle.object_hex.specs.HexMeaning.{IsHexText, byte_at, byte_in, code_of, end_in, ends_file, fault_at, fault_behind, given, has_end, has_some, highest_end, is_end_type}
+use Rattle.object_hex.specs.HexMeaning.{IsHexText, byte_at, byte_in, code_of, end_in, ends_file, fault_at, fault_behind, given, has_end, has_some, highest_end}
 use Rattle.object_hex.specs.HexAnswer.{IsHexAnswer, ReadsBack}
 use Rattle.object_hex.proofs.Behind.{given-push, has_end-push, highest_end-push}
 use Rattle.object_hex.proofs.HexWalk.{fault-end, fault-line}

@@ -1,16 +1,15 @@
 -- The lines of a hex text, read one after another.
-use Rattle.std.proofs.Common.{◌≡◌, ℕ, zero, suc, ◌+◌, ◌<◌, ◌≤◌, Bool, true, false, cond, List, [], ◌∷◌, ◌++◌, length, take, drop, map, Option, Some, None, unwrap_or, refl, ap, ap₂, sym, subst, ◌∙◌, ◌⊎◌, inl, inr, arith}
-use Rattle.std.specs.Prelude.{slice_get, Result, Ok, Err}
+use Rattle.std.proofs.Common.{◌≡◌, ℕ, zero, suc, ◌+◌, ◌<◌, ◌≤◌, Bool, true, false, cond, List, [], ◌∷◌, ◌++◌, length, take, drop, map, Option, Some, None, unwrap_or, refl, ap, ap₂, sym, subst, ◌∙◌, inl, inr, arith}
+use Rattle.std.specs.Prelude.{slice_get, Ok, Err}
 use Rattle.std.proofs.lemmas.Bool.{cases_lt}
 use Rattle.std.proofs.lemmas.Option.{none-some, slice_get_past}
 use Rattle.std.proofs.lemmas.List.{length-drop, take_all}
 use Rattle.object_hex.specs.declared.reading.faults.HexFault.{HexFault}
 use Rattle.object_hex.specs.declared.reading.faults.HexKind.{HexKind}
 use Rattle.object_hex.specs.declared.reading.faults.HexKind.TheVariants.{NoEnd}
-use Rattle.object_hex.specs.declared.reading.faults.HexError.{HexError}
 use Rattle.object_hex.specs.declared.reading.faults.HexError.TheVariants.{Fault, OutOfMemory}
 use Rattle.object_hex.specs.Lines.{lines}
-use Rattle.object_hex.specs.HexMeaning.{code_of, fault_at, fault_behind, fault_here, given, has_end, IsHexText, IsFirstFault}
+use Rattle.object_hex.specs.HexMeaning.{code_of, fault_at, fault_behind, fault_here, has_end, IsHexText, IsFirstFault}
 use Rattle.object_hex.specs.HexAnswer.{IsHexAnswer}
 use Rattle.object_hex.specs.Reading.{IsReadUpTo}
 use Rattle.object_hex.proofs.Splits.{lines-nil}

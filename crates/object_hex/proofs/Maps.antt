@@ -1,18 +1,16 @@
 -- Lines that give the addresses of labels, one after another.
-use Rattle.std.proofs.Common.{◌≡◌, ℕ, zero, suc, ◌+◌, ◌*◌, ◌<◌, ◌≤◌, min, Bool, true, false, cond, eqb, List, [], ◌∷◌, ◌++◌, length, take, drop, get_or, set, Option, Some, None, refl, ap, ap₂, sym, subst, ◌∙◌, ◌⊎◌, inl, inr, arith}
-use Rattle.std.specs.Prelude.{◌||◌, ◌≢◌, slice_get, Result, Ok, Err}
-use Rattle.std.proofs.lemmas.Bool.{cases_lt, eqb-true, false≢true}
+use Rattle.std.proofs.Common.{◌≡◌, ℕ, zero, suc, ◌+◌, ◌<◌, ◌≤◌, min, Bool, true, false, eqb, List, [], ◌∷◌, ◌++◌, length, take, drop, get_or, set, Some, refl, ap, ap₂, sym, subst, ◌∙◌, inl, inr, arith}
+use Rattle.std.specs.Prelude.{◌||◌, ◌≢◌, Ok, Err}
+use Rattle.std.proofs.lemmas.Bool.{cases_lt, false≢true}
 use Rattle.std.proofs.lemmas.Bool.Decides.{eqb_tells}
-use Rattle.std.proofs.lemmas.Option.{none-some, get_or_from_slice_get}
 use Rattle.std.proofs.lemmas.List.{get_or-set_same, get_or-set_other, get_or-take, length-append, length-drop, length-take, length-take-le, take_all, ext_get_or}
 use Rattle.object_hex.specs.declared.reading.faults.MapFault.{MapFault}
-use Rattle.object_hex.specs.declared.reading.faults.MapError.{MapError}
 use Rattle.object_hex.specs.declared.reading.faults.MapError.TheVariants.{Fault, OutOfMemory}
 use Rattle.object_hex.specs.Lines.{lines}
 use Rattle.object_hex.specs.MapMeaning.{address_in, IsMapOf, IsMapText, IsFirstBadLine}
 use Rattle.object_hex.specs.MapAnswer.{IsMapAnswer}
 use Rattle.object_hex.proofs.Splits.{lines-nil, take-take-le}
-use Rattle.object_hex.proofs.HexWalk.{NextOf, next_line}
+use Rattle.object_hex.proofs.HexWalk.{next_line}
 
 -- whether an address is among some
 abbrev pub has : ℕ → List ℕ → Bool

@@ -1,5 +1,5 @@
 -- Bytes put at the places of their addresses.
-use Rattle.std.proofs.Common.{◌≡◌, ℕ, zero, suc, ◌+◌, ◌-◌, ◌<◌, ◌≤◌, Bool, true, false, cond, ltb, replicate, List, [], ◌∷◌, length, take, drop, get_or, set, map, Option, Some, None, is_some, unwrap_or, refl, ap, ap₂, sym, ◌∙◌, inl, inr, arith}
+use Rattle.std.proofs.Common.{◌≡◌, ℕ, zero, suc, ◌+◌, ◌-◌, ◌<◌, ◌≤◌, true, false, cond, ltb, replicate, List, [], ◌∷◌, length, take, drop, get_or, set, map, Option, Some, None, is_some, unwrap_or, refl, ap, ap₂, sym, ◌∙◌, inl, inr, arith}
 use Rattle.std.specs.Prelude.{◌||◌, ◌≢◌, slice_get, slice_range}
 use Rattle.std.specs.Option.{option_or}
 use Rattle.std.specs.List.{list_any, range_with_len}
@@ -9,7 +9,6 @@ use Rattle.std.proofs.lemmas.Option.{slice_get-get_or, slice_get_past}
 use Rattle.std.proofs.lemmas.List.{drop_more, get_or-replicate, get_or-set_same, get_or-set_other, length-take, length-take-le, length-map, get_or-map, get_or-take}
 use Rattle.std.proofs.lemmas.List.FromFn.{fill_by_all}
 use Rattle.object_hex.specs.HexMeaning.{byte_at, has_some, load_fault, given, highest_end, code_of}
-use Rattle.object_hex.specs.declared.reading.faults.HexKind.{HexKind}
 use Rattle.object_hex.specs.declared.reading.faults.HexKind.TheVariants.{Range, Twice}
 use Rattle.object_hex.specs.Reading.{Holds}
 

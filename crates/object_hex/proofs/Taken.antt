@@ -1,11 +1,11 @@
 -- A line taken behind others.
-use Rattle.std.proofs.Common.{◌≡◌, ℕ, ◌+◌, ◌<◌, ◌≤◌, max, Bool, true, false, cond, List, [], ◌∷◌, ◌++◌, length, Option, Some, None, refl, ap, ap₂, sym, ◌∙◌, arith}
+use Rattle.std.proofs.Common.{◌≡◌, ℕ, ◌+◌, max, Bool, true, false, cond, List, [], ◌∷◌, ◌++◌, length, Option, Some, None, refl, ap, ap₂, sym, ◌∙◌, arith}
 use Rattle.std.specs.Prelude.{◌||◌, ◌==◌, Result, Ok, Err, MatchResult, if◌then◌else◌}
 use Rattle.std.specs.Option.{option_or}
 use Rattle.object_hex.specs.declared.reading.faults.HexKind.{HexKind}
 use Rattle.object_hex.specs.declared.reading.faults.HexKind.TheVariants.{After, Form}
 use Rattle.object_hex.specs.declared.reading.record.RecordType.{RecordType}
-use Rattle.object_hex.specs.declared.reading.record.RecordType.TheVariants.{Data, EndOfFile, UpperAddress}
+use Rattle.object_hex.specs.declared.reading.record.RecordType.TheVariants.{Data}
 use Rattle.object_hex.specs.Records.{HexRecord, record_bytes, record_in, from_bytes, with_type, type_of, offset_of, data_of, loaded}
 use Rattle.object_hex.specs.HexMeaning.{byte_at, byte_in, end_in, ends_file, is_end_type, fault_behind, fault_of, given, has_end, highest_end, load_fault}
 use Rattle.object_hex.specs.Reading.{Holds, IsReadUpTo}

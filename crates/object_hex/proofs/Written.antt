@@ -1,5 +1,5 @@
 -- The lines of a text that was written line by line.
-use Rattle.std.proofs.Common.{◌≡◌, ℕ, zero, suc, ◌+◌, ◌-◌, ◌/◌, ◌%◌, ◌<◌, ◌≤◌, leb, true, List, [], ◌∷◌, ◌++◌, length, get_or, slice_index, refl, ap, sym, ◌∙◌, inl, inr, arith}
+use Rattle.std.proofs.Common.{◌≡◌, ℕ, zero, suc, ◌/◌, ◌%◌, ◌<◌, leb, true, List, [], ◌∷◌, ◌++◌, length, get_or, slice_index, refl, ap, ◌∙◌, arith}
 use Rattle.std.proofs.lemmas.Bool.{agree_below_at, leb-true}
 use Rattle.hex.specs.Hex.{IsBytes, encode_with, upper_digits}
 use Rattle.object_hex.specs.Digits.{pairs}

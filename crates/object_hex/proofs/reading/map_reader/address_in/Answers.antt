@@ -1,4 +1,4 @@
-use Rattle.std.proofs.Common.{◌≡◌, ℕ, Some, decimal, codes, ap, sym, ◌∙◌}
+use Rattle.std.proofs.Common.{◌≡◌, Some, decimal, codes, ap, sym, ◌∙◌}
 use Rattle.object_hex.specs.MapMeaning.{address_in, behind, behind_blank, in_digits}
 use Rattle.object_hex.proofs.Addresses.{behind-is, behind-not}
 use Rattle.object_hex.proofs.reading.map_reader.address_in.Goals as goal

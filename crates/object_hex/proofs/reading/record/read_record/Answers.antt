@@ -1,4 +1,4 @@
-use Rattle.std.proofs.Common.{◌≡◌, ◌-◌, ◌%◌, length, arith}
+use Rattle.std.proofs.Common.{arith}
 use Rattle.object_hex.proofs.RecordForm.{record_bytes-long, record_bytes-odd}
 use Rattle.object_hex.proofs.reading.record.read_record.Goals.{then-digits-count-via-then-digits-count, then-digits-count-via-else-digits-count+then-count-gt-MOST_IN_RECORD}
 use Rattle.object_hex.proofs.reading.record.read_record.Goals as goal

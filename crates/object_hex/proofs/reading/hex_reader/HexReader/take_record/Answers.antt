@@ -1,10 +1,10 @@
-use Rattle.std.proofs.Common.{◌≡◌, ℕ, ◌≤◌, ◌+◌, List, [], refl, ap, sym, ◌∙◌, Ok, Err, arith}
+use Rattle.std.proofs.Common.{◌≡◌, ◌≤◌, ◌+◌, [], refl, ap, sym, ◌∙◌, Ok, arith}
 use Rattle.std.proofs.lemmas.Result.{err_from_is_err_and}
 use Rattle.object_hex.specs.declared.reading.record.RecordType.TheVariants.{Data, EndOfFile, UpperAddress}
 use Rattle.object_hex.specs.Records.{type_of, offset_of}
 use Rattle.object_hex.specs.HexMeaning.{given}
 use Rattle.object_hex.proofs.Places.{load_fault-none}
-use Rattle.object_hex.proofs.Taken.{Taking, taken_bad, taken_data, taken_none}
+use Rattle.object_hex.proofs.Taken.{taken_bad, taken_data, taken_none}
 use Rattle.object_hex.proofs.reading.hex_reader.HexReader.take_record.Goals as goal
 
 pub returns-in_err-kind : goal.returns-in_err-kind
