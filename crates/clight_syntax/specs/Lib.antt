@@ -4,4 +4,7 @@ pub mod Erasure
 pub mod Numbers
 pub mod Spelling
 pub mod Trees
+pub mod Types
+pub mod TypedTrees
+pub mod TypedViews
 pub mod Views
