@@ -26,6 +26,8 @@ use Rattle.clight_syntax.specs.declared.typed.Variable.{Variable}
 use Rattle.clight_syntax.specs.declared.typed.MemberType.{MemberType}
 use Rattle.clight_syntax.specs.declared.typed.StructType.{StructType as HeldStruct}
 use Rattle.clight_syntax.specs.declared.typed.TypedProgram.{TypedProgram}
+use Rattle.clight_syntax.specs.declared.typed.Labelled.{Labelled}
+use Rattle.cerco_base.specs.declared.events.Label.{Label}
 
 abbrev pub expr_of : Expr → p.Expr
 expr_of (e.Variable type variable name) = p.Variable (type_of type) variable name
@@ -149,3 +151,6 @@ program_of x = record {
   frames = x.frames.items;
   data_bytes = x.data_bytes;
 }
+
+abbrev pub labelled_of : Labelled → p.TypedProgram Label
+labelled_of x = program_of x.program

@@ -18,7 +18,7 @@ pub use points::{Piece, Point, Points};
 pub use span::Span;
 pub use symbol::{Literal, Radix, Symbol, Terminal};
 pub use tree::{Expr, Function, Program, Stmt};
-pub use typed::Cond;
+pub use typed::{Cond, Labelled, Typed, TypedProgram};
 pub use types::Ty;
 pub use writes::PortWrites;
 

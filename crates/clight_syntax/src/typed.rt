@@ -2,6 +2,7 @@
 //! in a program that was checked, a label in one that was labelled. They keep all tokens of the source.
 
 use crate::names::Names;
+use crate::points::Points;
 use crate::span::Span;
 use crate::symbol::Literal;
 use crate::tree::{
@@ -9,6 +10,7 @@ use crate::tree::{
     Prototype, Specifiers, StructDefinition,
 };
 use crate::types::Ty;
+use cerco_base::Label;
 
 /// An expression with its type, the first field of each form.
 #[derive(Drop)]
@@ -261,4 +263,14 @@ pub struct TypedProgram<L: Drop> {
     pub frames: Vec<u16>,
     /// The bytes of the globals and of the largest frames of a call path.
     pub data_bytes: u16,
+}
+
+/// A program that was checked.
+pub type Typed = TypedProgram<()>;
+
+/// A program with its cost labels, and the places in the source at which its annotations stand.
+#[derive(Drop)]
+pub struct Labelled {
+    pub program: TypedProgram<Label>,
+    pub points: Points,
 }
