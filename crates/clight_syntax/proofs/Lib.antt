@@ -1,3 +1,4 @@
+pub mod Depths
 pub mod Cutting
 pub mod DecimalTexts
 pub mod AnnotatedText

@@ -1,3 +1,10 @@
 pub mod Annotations
+pub mod Depth
 pub mod Erasure
 pub mod Numbers
+pub mod Spelling
+pub mod Trees
+pub mod Types
+pub mod TypedTrees
+pub mod TypedViews
+pub mod Views
