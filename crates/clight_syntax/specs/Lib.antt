@@ -1,10 +1,13 @@
 pub mod Annotations
+pub mod Constants
 pub mod Depth
 pub mod Erasure
+pub mod Lexemes
 pub mod Numbers
 pub mod Spelling
+pub mod Tokens
 pub mod Trees
-pub mod Types
 pub mod TypedTrees
 pub mod TypedViews
+pub mod Types
 pub mod Views

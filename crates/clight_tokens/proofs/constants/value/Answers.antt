@@ -1,0 +1,16 @@
+use Rattle.std.proofs.Common.{rules, arith}
+use Rattle.clight_tokens.proofs.Values.{next_value, large_value, ends}
+use Rattle.clight_tokens.proofs.constants.value.Goals as goal
+
+pub loop-b-preserved : goal.loop-b-preserved
+loop-b-preserved c =
+    next_value c.args.radix c.args.digits.now c.loop-b.b-index c.loop-b.value _ _ c.loop-b-test.true c.loop-b.invariant c.base-base.ensures.value c.digit_value-digit.ensures.value
+    c.if-digit-base.false c.if-value-gt65535.false
+
+pub returns-then-value-gt65535 : goal.returns-then-value-gt65535
+returns-then-value-gt65535 c =
+    large_value c.args.radix c.args.digits.now c.loop-b.b-index c.loop-b.value _ _ c.loop-b-test.true c.loop-b.invariant c.base-base.ensures.value c.digit_value-digit.ensures.value
+    c.if-value-gt65535.true
+
+pub returns : goal.returns
+returns c = ends c.args.radix c.args.digits.now c.loop-b.b-index c.loop-b.value (search rules) c.loop-b-test.false c.loop-b.invariant
