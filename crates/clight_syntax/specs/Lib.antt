@@ -5,6 +5,7 @@ pub mod Erasure
 pub mod Lexemes
 pub mod Numbers
 pub mod Spelling
+pub mod Symbols
 pub mod Tokens
 pub mod Trees
 pub mod TypedTrees

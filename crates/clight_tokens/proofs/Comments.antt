@@ -7,7 +7,7 @@ use Rattle.clight_syntax.specs.Lexemes.{Kind, in_line, is_close, has_no_close, e
 use Rattle.clight_syntax.specs.Lexemes as k
 use Rattle.clight_syntax.specs.Tokens.{first_pair, one_on}
 use Rattle.clight_tokens.specs.Views.{run_length, begins_comment}
-use Rattle.clight_tokens.proofs.Tables.{and_right, no_comment}
+use Rattle.clight_tokens.proofs.PunctuatorTable.{and_right, no_comment}
 use Rattle.clight_tokens.proofs.Longer.{run_within, run_all, run_most}
 
 -- where the first `*/` stands in what follows the opening

@@ -1,4 +1,4 @@
-pub mod Tables
+pub mod PunctuatorTable
 pub mod Heads
 pub mod Longer
 pub mod Comments
@@ -8,3 +8,4 @@ pub mod Steps
 pub mod Unique
 pub mod OneAnswer
 pub mod Spans
+pub mod NameLists

@@ -10,7 +10,7 @@ use Rattle.cerco_base.specs.declared.reasons.Reason.TheVariants as r
 use Rattle.clight_syntax.specs.Lexemes.{is_source_byte}
 use Rattle.clight_syntax.specs.Erasure.{HasNoMarker}
 use Rattle.clight_syntax.specs.Tokens.{Token, HasTokens, HasFault, HasSourceBytes, IsFirstWrongByte, IsFirstMarker}
-use Rattle.clight_tokens.proofs.Tables.{and_left, and_right}
+use Rattle.clight_tokens.proofs.PunctuatorTable.{and_left, and_right}
 use Rattle.clight_tokens.proofs.Unique.{one_list, tokens_or_fault, one_fault}
 
 bad : (v : Bool) → v ≡ true → v ≡ false → ⊥

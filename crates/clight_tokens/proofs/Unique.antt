@@ -7,7 +7,7 @@ use Rattle.clight_syntax.specs.Lexemes.{Kind, is_blank, is_digit, is_letter, in_
 use Rattle.clight_syntax.specs.Lexemes as k
 use Rattle.clight_syntax.specs.Tokens.{Token, TokensFrom, at_end, gap, token, FaultFrom, nothing, wrong, later, is_token, flaw}
 use Rattle.clight_tokens.specs.Views.{begins_comment}
-use Rattle.clight_tokens.proofs.Tables.{and_left, and_right, first_alone, no_letter, no_digit, no_blank, no_comment}
+use Rattle.clight_tokens.proofs.PunctuatorTable.{and_left, and_right, first_alone, no_letter, no_digit, no_blank, no_comment}
 use Rattle.clight_tokens.proofs.Longer.{empty_none}
 use Rattle.clight_tokens.proofs.Heads.{Head, head, same_byte, letter_alone, digit_alone, blank_alone}
 

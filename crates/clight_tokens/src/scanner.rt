@@ -106,7 +106,8 @@ fn scan<'a>(alloc: Global, text: &'a [u8]) -> Result<Vec<Token<'a>>, Fault>
 /// The tokens of a source, each a slice of it, in order; or why it has none: it has more than 65,535
 /// bytes, a byte that no source has, the opening of an annotation, or a place at which no token stands.
 pub fn tokens<'a>(alloc: Global, text: &'a [u8]) -> Result<TokenList<'a>, Fault>
-    ensures tokens { IfOk result (λ l. HasTokens text.now l.tokens × (l.length ≡ length text.now)) }
+    ensures tokens { IfOk result (λ l. HasTokens text.now l.tokens) }
+    ensures length { IfOk result (λ l. l.length ≡ length text.now) }
     ensures fault { IfErr result (HasFault text.now) }
 {
     if text.len() > 65535 {

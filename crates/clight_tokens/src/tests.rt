@@ -1,5 +1,6 @@
-use crate::tokens;
+use crate::{terminals, tokens};
 use cerco_base::{Fault, Reason};
+use clight_syntax::{Literal, Radix, Symbol};
 use std::alloc::Global;
 use std::process::Abort;
 use std::test::Fail;
@@ -123,5 +124,54 @@ fn earlier_reasons_come_first(rt: HostRuntime) -> Result<(), Fail> {
         tokens(alloc, &text).err(),
         Some(Fault::Refused(Reason::TooLong))
     );
+    Ok(())
+}
+
+fn number(value: u32, radix: Radix, unsigned: bool) -> Symbol {
+    Symbol::Number(Literal {
+        value,
+        radix,
+        unsigned,
+    })
+}
+
+#[test]
+fn tokens_have_their_symbols(rt: HostRuntime) -> Result<(), Fail> {
+    let alloc = rt.alloc();
+    let text = b"int b=a1+b;P1=P;Int 0 00 017u 0X1f 65535U<<=->?goto while";
+    let list = tokens(alloc, text)?;
+    let found = terminals(alloc, &list)?;
+    assert_eq!(rt; found.names.len(), 4);
+    let mut symbols = Vec::new(alloc);
+    for terminal in &found.terminals {
+        symbols.push(terminal.symbol)?;
+    }
+    let wanted = [
+        Symbol::Int,
+        Symbol::Name(0),
+        Symbol::Assign,
+        Symbol::Name(1),
+        Symbol::Plus,
+        Symbol::Name(0),
+        Symbol::Semicolon,
+        Symbol::PortOne,
+        Symbol::Assign,
+        Symbol::Name(2),
+        Symbol::Semicolon,
+        Symbol::Name(3),
+        number(0, Radix::Decimal, false),
+        number(0, Radix::Octal, false),
+        number(15, Radix::Octal, true),
+        number(31, Radix::Hexadecimal, false),
+        number(65535, Radix::Decimal, true),
+        Symbol::Other,
+        Symbol::Arrow,
+        Symbol::Other,
+        Symbol::Other,
+        Symbol::While,
+    ];
+    assert_eq!(rt; symbols.as_slice(), wanted.as_slice());
+    let last = list.as_slice().last().map(|t| t.span);
+    assert_eq!(rt; found.terminals.as_slice().last().map(|t| t.span), last);
     Ok(())
 }
