@@ -1,6 +1,6 @@
 -- Integer constants (ISO/IEC 9899:1999, 6.4.4.1), in the compiler's profile of C: a decimal constant without leading zero, `0` and
 -- octal digits, or `0x` or `0X` and hexadecimal digits, each with at most one `u` or `U` behind it, and a value of at most 65,535.
-use Rattle.std.specs.Prelude.{ℕ, ◌+◌, ◌-◌, ◌*◌, Bool, ◌&&◌, ◌||◌, ◌==◌, nat_le, nat_lt, if◌then◌else◌, List, [], ◌∷◌, take, drop, length, map, fold, slice_index, Option, Some, None}
+use Rattle.std.specs.Prelude.{ℕ, ◌+◌, ◌-◌, ◌*◌, Bool, ◌&&◌, ◌||◌, ◌==◌, nat_le, nat_lt, if◌then◌else◌, List, ◌∷◌, take, drop, length, map, fold, slice_index, Option, Some, None}
 use Rattle.std.specs.List.{list_all}
 use Rattle.clight_syntax.specs.declared.symbol.Radix.{Radix}
 use Rattle.clight_syntax.specs.declared.symbol.Radix.TheVariants.{Decimal, Octal, Hexadecimal}

@@ -1,7 +1,7 @@
 -- What can stand at a place of a source: a blank, a comment, a word, a number or a punctuator, and the longest of these
 -- (ISO/IEC 9899:1999, 6.4, 6.4.1, 6.4.2, 6.4.4.1, 6.4.6 and 6.4.9, in the compiler's profile of C: `docs/language.md`). Digraphs, `#`,
 -- strings and character constants aren't among them.
-use Rattle.std.specs.Prelude.{◌≡◌, ◌≤◌, ◌<◌, ℕ, ◌+◌, Bool, true, false, not, ◌&&◌, ◌||◌, ◌==◌, nat_le, List, [], ◌∷◌, take, length, codes}
+use Rattle.std.specs.Prelude.{◌≡◌, ◌≤◌, ◌<◌, ℕ, Bool, true, false, not, ◌&&◌, ◌||◌, ◌==◌, nat_le, List, [], ◌∷◌, take, length, codes}
 use Rattle.std.specs.List.{list_all, list_any}
 use Rattle.std.specs.Str.{bytes_eq}
 

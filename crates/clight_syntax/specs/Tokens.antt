@@ -4,11 +4,10 @@ use Rattle.std.specs.Prelude.{◌≡◌, ◌≤◌, ◌<◌, ℕ, suc, ◌+◌, 
 use Rattle.std.specs.List.{list_all, starts_with}
 use Rattle.cerco_base.specs.declared.reasons.Fault.{Fault}
 use Rattle.cerco_base.specs.declared.reasons.Fault.TheVariants.{Refused, OutOfMemory}
-use Rattle.cerco_base.specs.declared.reasons.Reason.{Reason}
 use Rattle.cerco_base.specs.declared.reasons.Reason.TheVariants as r
 use Rattle.clight_syntax.specs.declared.span.Span.{Span}
 use Rattle.clight_syntax.specs.Erasure.{HasNoMarker}
-use Rattle.clight_syntax.specs.Lexemes.{Kind, Blank, LineComment, BlockComment, OpenComment, Word, Number, Punctuator, IsLongest, HasNoLexeme, is_source_byte}
+use Rattle.clight_syntax.specs.Lexemes.{Kind, LineComment, BlockComment, OpenComment, Word, Number, Punctuator, IsLongest, HasNoLexeme, is_source_byte}
 use Rattle.clight_syntax.specs.Constants.{constant_of}
 
 -- a token with its place

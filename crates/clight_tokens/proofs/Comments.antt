@@ -1,12 +1,11 @@
 -- The longest thing where a comment begins.
-use Rattle.std.proofs.Common.{◌≡◌, ◌≤◌, ◌<◌, ℕ, zero, suc, ◌+◌, Bool, true, false, List, [], ◌∷◌, take, length, refl, sym, ap, subst, ◌∙◌, arith}
-use Rattle.std.specs.Prelude.{not, ◌&&◌, ◌||◌, ◌==◌, nat_le, cond, Option, Some, None}
-use Rattle.std.specs.List.{list_all}
+use Rattle.std.proofs.Common.{◌≡◌, ◌≤◌, ℕ, zero, suc, Bool, true, false, List, [], ◌∷◌, take, length, refl, arith}
+use Rattle.std.specs.Prelude.{◌||◌, ◌==◌, cond, Option, Some, None}
 use Rattle.std.proofs.Math.Seq.{take-length}
 use Rattle.clight_syntax.specs.Lexemes.{Kind, in_line, is_close, has_no_close, ends_at_close, is_punctuator, is_lexeme, IsLongest}
 use Rattle.clight_syntax.specs.Lexemes as k
 use Rattle.clight_syntax.specs.Tokens.{first_pair, one_on}
-use Rattle.clight_tokens.specs.Views.{run_length, begins_comment}
+use Rattle.clight_tokens.specs.Views.{run_length}
 use Rattle.clight_tokens.proofs.PunctuatorTable.{and_right, no_comment}
 use Rattle.clight_tokens.proofs.Longer.{run_within, run_all, run_most}
 

@@ -1,8 +1,8 @@
 -- The longest thing at a place, by its first bytes.
-use Rattle.std.proofs.Common.{◌≡◌, ◌≤◌, ◌<◌, ℕ, zero, suc, ◌+◌, Bool, true, false, List, [], ◌∷◌, take, length, refl, sym, ap, subst, ◌∙◌, arith, ◌⊎◌, inl, inr}
+use Rattle.std.proofs.Common.{◌≡◌, ◌≤◌, ◌<◌, ℕ, zero, suc, Bool, true, false, List, [], ◌∷◌, take, length, refl, subst, arith, inl, inr}
 use Rattle.std.proofs.lemmas.List.{length-take-le}
 use Rattle.std.proofs.lemmas.Bool.{cases_lt}
-use Rattle.std.specs.Prelude.{not, ◌&&◌, ◌||◌, ◌==◌, nat_le, cond}
+use Rattle.std.specs.Prelude.{◌&&◌, cond}
 use Rattle.std.specs.List.{list_all}
 use Rattle.clight_syntax.specs.Lexemes.{Kind, is_blank, is_digit, is_letter, is_word_byte, is_one_byte, is_punctuator, is_lexeme, IsLongest, HasNoLexeme}
 use Rattle.clight_syntax.specs.Lexemes as k

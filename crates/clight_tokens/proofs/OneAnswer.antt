@@ -1,8 +1,6 @@
 -- A whole text has tokens or a reason why it has none, one at most.
-use Rattle.std.proofs.Common.{◌≡◌, ◌≤◌, ◌<◌, ℕ, zero, suc, ◌+◌, Bool, true, false, List, [], ◌∷◌, take, drop, length, get_or, refl, sym, ap, subst, ◌∙◌, arith, ◌⊎◌, inl, inr}
-use Rattle.std.specs.Prelude.{◌&&◌}
+use Rattle.std.proofs.Common.{◌≡◌, ◌≤◌, ◌<◌, ℕ, zero, suc, Bool, true, false, List, [], ◌∷◌, take, length, get_or, refl, ap, arith, inl, inr}
 use Rattle.std.specs.List.{list_all}
-use Rattle.std.proofs.lemmas.List.{get_or-take}
 use Rattle.std.proofs.lemmas.Bool.{cases_lt}
 use Rattle.cerco_base.specs.declared.reasons.Fault.TheVariants.{Refused}
 use Rattle.cerco_base.specs.declared.reasons.Reason.{Reason}
@@ -11,7 +9,7 @@ use Rattle.clight_syntax.specs.Lexemes.{is_source_byte}
 use Rattle.clight_syntax.specs.Erasure.{HasNoMarker}
 use Rattle.clight_syntax.specs.Tokens.{Token, HasTokens, HasFault, HasSourceBytes, IsFirstWrongByte, IsFirstMarker}
 use Rattle.clight_tokens.proofs.PunctuatorTable.{and_left, and_right}
-use Rattle.clight_tokens.proofs.Unique.{one_list, tokens_or_fault, one_fault}
+use Rattle.clight_tokens.proofs.Unique.{tokens_or_fault, one_fault}
 
 bad : (v : Bool) → v ≡ true → v ≡ false → ⊥
 bad v h g = cc

@@ -1,5 +1,5 @@
 -- The longest thing at a place, in the words of the code.
-use Rattle.std.proofs.Common.{◌≡◌, ◌≢◌, ◌≤◌, ◌<◌, ℕ, zero, suc, ◌+◌, Bool, true, false, List, [], ◌∷◌, drop, get_or, length, refl, sym, ap, subst, ◌∙◌, ◌-◌, add-one, arith}
+use Rattle.std.proofs.Common.{◌≡◌, ◌≤◌, ◌<◌, ℕ, zero, suc, ◌+◌, Bool, true, false, List, [], ◌∷◌, drop, get_or, length, refl, ap, ◌∙◌, ◌-◌, add-one, arith}
 use Rattle.std.specs.Prelude.{◌==◌, ◌&&◌, ◌||◌, Option, Some, None}
 use Rattle.clight_syntax.specs.Lexemes.{is_blank, is_digit, is_letter, is_word_byte, in_line, is_close, is_punctuator, IsLongest, HasNoLexeme}
 use Rattle.clight_syntax.specs.Lexemes as k

@@ -1,6 +1,6 @@
 -- The turns of the loop over a text.
-use Rattle.std.proofs.Common.{◌≡◌, ◌≤◌, ◌<◌, ℕ, zero, suc, ◌+◌, Bool, true, false, List, [], ◌∷◌, ◌++◌, take, drop, length, map, refl, sym, ap, subst, ◌∙◌, append_assoc, append-nil, arith}
-use Rattle.std.specs.Prelude.{Option, Some, None, cond}
+use Rattle.std.proofs.Common.{◌≡◌, ◌≤◌, ◌<◌, ℕ, ◌+◌, Bool, true, false, List, [], ◌∷◌, ◌++◌, take, drop, length, refl, sym, subst, append_assoc, arith}
+use Rattle.std.specs.Prelude.{Some, None, cond}
 use Rattle.std.proofs.lemmas.List.{drop-drop, drop_all}
 use Rattle.clight_syntax.specs.Lexemes.{Kind, IsLongest, HasNoLexeme}
 use Rattle.clight_syntax.specs.Tokens.{Token, TokensFrom, gap, token, FaultFrom, nothing, wrong, later, is_token, flaw}

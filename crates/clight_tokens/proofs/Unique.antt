@@ -1,13 +1,13 @@
 -- A text has one list of tokens or one first fault, and not both.
-use Rattle.std.proofs.Common.{◌≡◌, ◌≢◌, ◌≤◌, ◌<◌, ℕ, zero, suc, ◌+◌, Bool, true, false, List, [], ◌∷◌, take, drop, length, refl, sym, ap, subst, ◌∙◌, arith}
-use Rattle.std.specs.Prelude.{not, ◌&&◌, ◌||◌, ◌==◌, cond, Option, Some, None}
+use Rattle.std.proofs.Common.{◌≡◌, ◌≢◌, ◌≤◌, ℕ, ◌+◌, Bool, true, false, List, [], ◌∷◌, take, drop, refl, sym, ◌∙◌, arith}
+use Rattle.std.specs.Prelude.{◌&&◌, ◌||◌, ◌==◌, Option, Some, None}
 use Rattle.std.specs.List.{list_all}
 use Rattle.std.proofs.lemmas.Bool.Decides.{nat_tests}
 use Rattle.clight_syntax.specs.Lexemes.{Kind, is_blank, is_digit, is_letter, in_line, has_no_close, ends_at_close, has_front, is_punctuator, is_lexeme, IsLongest, HasNoLexeme}
 use Rattle.clight_syntax.specs.Lexemes as k
 use Rattle.clight_syntax.specs.Tokens.{Token, TokensFrom, at_end, gap, token, FaultFrom, nothing, wrong, later, is_token, flaw}
 use Rattle.clight_tokens.specs.Views.{begins_comment}
-use Rattle.clight_tokens.proofs.PunctuatorTable.{and_left, and_right, first_alone, no_letter, no_digit, no_blank, no_comment}
+use Rattle.clight_tokens.proofs.PunctuatorTable.{and_left, and_right, no_letter, no_digit, no_blank, no_comment}
 use Rattle.clight_tokens.proofs.Longer.{empty_none}
 use Rattle.clight_tokens.proofs.Heads.{Head, head, same_byte, letter_alone, digit_alone, blank_alone}
 

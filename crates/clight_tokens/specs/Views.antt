@@ -1,5 +1,5 @@
 -- What the values of the code stand for, and what its searches find.
-use Rattle.std.specs.Prelude.{◌≡◌, ◌<◌, ◌≤◌, ℕ, suc, cond, Bool, true, false, ◌&&◌, ◌||◌, ◌==◌, List, [], ◌∷◌, length, Option, Some, None}
+use Rattle.std.specs.Prelude.{◌≡◌, ℕ, suc, cond, Bool, true, false, ◌&&◌, ◌||◌, ◌==◌, List, [], ◌∷◌, Option, Some, None}
 use Rattle.clight_syntax.specs.declared.symbol.Radix.{Radix}
 use Rattle.clight_syntax.specs.Lexemes as l
 use Rattle.clight_syntax.specs.Lexemes.{is_close, is_punctuator, IsLongest, HasNoLexeme}

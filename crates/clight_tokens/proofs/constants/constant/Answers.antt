@@ -1,5 +1,5 @@
 use Rattle.std.proofs.Common.{◌∙◌}
-use Rattle.clight_tokens.proofs.Values.{Parts, no_constant, the_constant}
+use Rattle.clight_tokens.proofs.Values.{no_constant, the_constant}
 use Rattle.clight_tokens.proofs.constants.constant.Goals as goal
 
 pub returns-in_err-value : goal.returns-in_err-value

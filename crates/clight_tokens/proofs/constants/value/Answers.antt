@@ -1,4 +1,4 @@
-use Rattle.std.proofs.Common.{rules, arith}
+use Rattle.std.proofs.Common.{rules}
 use Rattle.clight_tokens.proofs.Values.{next_value, large_value, ends}
 use Rattle.clight_tokens.proofs.constants.value.Goals as goal
 

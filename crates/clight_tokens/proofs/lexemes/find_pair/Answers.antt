@@ -1,6 +1,6 @@
 use Rattle.std.proofs.Common.{arith, sym, ◌∙◌}
 use Rattle.clight_tokens.specs.Views.{test_of}
-use Rattle.clight_tokens.proofs.Places.{pair_next, pair_here, pair_none}
+use Rattle.clight_tokens.proofs.Places.{pair_next, pair_none}
 use Rattle.clight_tokens.proofs.lexemes.find_pair.Goals as goal
 
 pub loop-at-preserved : goal.loop-at-preserved

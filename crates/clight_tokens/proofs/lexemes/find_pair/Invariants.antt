@@ -1,4 +1,4 @@
-use Rattle.std.proofs.Common.{◌≡◌, ◌+◌, ◌-◌, ◌≤◌, length, drop}
+use Rattle.std.proofs.Common.{◌≡◌, ◌-◌, ◌≤◌, length, drop}
 use Rattle.clight_syntax.specs.Tokens.{first_pair}
 use Rattle.clight_tokens.specs.Views.{test_of}
 use Rattle.clight_tokens.proofs.Places.{shifted}

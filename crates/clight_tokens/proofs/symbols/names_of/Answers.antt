@@ -1,4 +1,4 @@
-use Rattle.std.proofs.Common.{arith, map}
+use Rattle.std.proofs.Common.{arith}
 use Rattle.clight_tokens.proofs.NameLists.{names-step, names-end}
 use Rattle.clight_tokens.proofs.symbols.names_of.Goals as goal
 

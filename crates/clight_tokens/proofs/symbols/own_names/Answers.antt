@@ -1,4 +1,3 @@
-use Rattle.std.proofs.Common.{arith}
 use Rattle.clight_tokens.proofs.NameLists.{texts-step}
 use Rattle.clight_tokens.proofs.symbols.own_names.Goals as goal
 

@@ -1,4 +1,3 @@
-use Rattle.std.proofs.Common.{◌∙◌}
 use Rattle.clight_tokens.proofs.NameLists.{word-place}
 use Rattle.clight_tokens.proofs.symbols.word_symbol.Goals as goal
 
