@@ -1,11 +1,11 @@
 mod Raised
-mod HexBack
+pub mod HexBack
 mod HexWalk
 mod Lines
 mod Loops
 mod Addresses
 mod Behind
-mod MapBack
+pub mod MapBack
 mod Maps
 mod Places
 mod RecordForm
