@@ -1,7 +1,9 @@
 pub mod Words
 pub mod Status
 pub mod Messages
-pub mod PortPrograms
+pub mod Refusals
+pub mod PlainPrograms
+pub mod PlainViews
 pub mod PortObjects
 pub mod Answers
 pub mod Inputs

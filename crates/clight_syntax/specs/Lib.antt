@@ -4,6 +4,7 @@ pub mod Depth
 pub mod Erasure
 pub mod Lexemes
 pub mod Numbers
+pub mod SourceTrees
 pub mod Spelling
 pub mod Symbols
 pub mod Tokens
