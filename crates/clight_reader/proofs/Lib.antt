@@ -1,1 +1,4 @@
 pub mod Examples
+pub mod ReadExpressions
+pub mod ReadStatements
+pub mod ReadItems
