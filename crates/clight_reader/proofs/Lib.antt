@@ -2,3 +2,5 @@ pub mod Examples
 pub mod ReadExpressions
 pub mod ReadStatements
 pub mod ReadItems
+pub mod OpenForms
+pub mod KeepsGrammar
