@@ -4,3 +4,4 @@ pub mod ReadStatements
 pub mod ReadItems
 pub mod OpenForms
 pub mod KeepsGrammar
+pub mod KeepsSpelling
