@@ -181,7 +181,7 @@ tag_of_cast_read : (left word : Span) (k : List (Form trees)) (y : Symbol) (a : 
 tag_of_cast_read left word k (s.Name number) a = sym (append_assoc (spell k) (terminal s.LeftParenthesis left ∷ (terminal s.Struct word ∷ [])) (terminal (s.Name number) a ∷ []))
 tag_of_cast_read left word k y a = tt
 
-inner_shape : (k x : List Terminal) (o m : Terminal) → k ++ (o ∷ (x ++ m ∷ [])) ≡ (k ++ (o ∷ x)) ++ m ∷ []
+pub inner_shape : (k x : List Terminal) (o m : Terminal) → k ++ (o ∷ (x ++ m ∷ [])) ≡ (k ++ (o ∷ x)) ++ m ∷ []
 inner_shape k x o m = simp append_assoc
 
 more_cast_read : (b : Option Specifiers) (left : Span) (type : Specifiers) (k : List (Form trees)) (x : Terminal) → words_or b (type_terminals type ++ x ∷ []) ≡ type_terminals type ++ x ∷ []
@@ -199,10 +199,10 @@ in_cast_read left type k y a = more_cast_read (next_word type y a) left type k (
 behind_shape : (k x : List Terminal) (m : Terminal) → k ++ (x ++ m ∷ []) ≡ (k ++ x) ++ m ∷ []
 behind_shape k x m = simp append_assoc
 
-one_shape : (k : List Terminal) (o : Terminal) (x : List Terminal) (m : Terminal) → k ++ (o ∷ (x ++ m ∷ [])) ≡ ((k ++ o ∷ []) ++ x) ++ m ∷ []
+pub one_shape : (k : List Terminal) (o : Terminal) (x : List Terminal) (m : Terminal) → k ++ (o ∷ (x ++ m ∷ [])) ≡ ((k ++ o ∷ []) ++ x) ++ m ∷ []
 one_shape k o x m = simp append_assoc
 
-two_shape : (k : List Terminal) (i o : Terminal) (x : List Terminal) (m : Terminal) → k ++ (i ∷ (o ∷ (x ++ m ∷ []))) ≡ ((k ++ (i ∷ (o ∷ []))) ++ x) ++ m ∷ []
+pub two_shape : (k : List Terminal) (i o : Terminal) (x : List Terminal) (m : Terminal) → k ++ (i ∷ (o ∷ (x ++ m ∷ []))) ≡ ((k ++ (i ∷ (o ∷ []))) ++ x) ++ m ∷ []
 two_shape k i o x m = simp append_assoc
 
 do_shape : (k x e : List Terminal) (d w o c : Terminal) → k ++ (d ∷ (x ++ (w ∷ (o ∷ (e ++ c ∷ []))))) ≡ ((k ++ (d ∷ (x ++ (w ∷ (o ∷ []))))) ++ e) ++ c ∷ []
@@ -364,7 +364,7 @@ behind_read y a e k =
 
 -- ---- a token where a statement may begin
 
-body_shape : (h : List Terminal) (o : Terminal) (l x : List Terminal) (c : Terminal) → h ++ (o ∷ (l ++ (x ++ c ∷ []))) ≡ ((h ++ (o ∷ l)) ++ x) ++ c ∷ []
+pub body_shape : (h : List Terminal) (o : Terminal) (l x : List Terminal) (c : Terminal) → h ++ (o ∷ (l ++ (x ++ c ∷ []))) ≡ ((h ++ (o ∷ l)) ++ x) ++ c ∷ []
 body_shape h o l x c = simp append_assoc
 
 close_brace_read : (a : Span) (k : List (Form trees)) → HasRead (close_brace trees a k) (spell k ++ terminal s.RightBrace a ∷ [])

@@ -5,3 +5,6 @@ pub mod ReadItems
 pub mod OpenForms
 pub mod KeepsGrammar
 pub mod KeepsSpelling
+pub mod Continues
+pub mod Programs
+pub mod CutTrees

@@ -5,3 +5,4 @@ pub mod Expressions
 pub mod Statements
 pub mod Declarations
 pub mod Machine
+pub mod Faults
