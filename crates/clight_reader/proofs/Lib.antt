@@ -8,3 +8,4 @@ pub mod KeepsSpelling
 pub mod Continues
 pub mod Programs
 pub mod CutTrees
+pub mod CutSteps
