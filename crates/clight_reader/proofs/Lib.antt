@@ -9,3 +9,4 @@ pub mod Continues
 pub mod Programs
 pub mod CutTrees
 pub mod CutSteps
+pub mod DeepNodes
