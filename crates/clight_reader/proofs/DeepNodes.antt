@@ -55,10 +55,10 @@ in_right l r h = none_right (first_deep l) (first_deep r) (sym (first_deep-appen
 
 -- ---- one node
 
-low_is : (d : ℕ) → nat_le d 64 ≡ true → d ≤ 64
+pub low_is : (d : ℕ) → nat_le d 64 ≡ true → d ≤ 64
 low_is d h = grind (arith, nat_tests)
 
-high_is : (d : ℕ) → nat_le d 64 ≡ false → 65 ≤ d
+pub high_is : (d : ℕ) → nat_le d 64 ≡ false → 65 ≤ d
 high_is d h = grind (arith, nat_tests)
 
 low_test : (d : ℕ) → d ≤ 64 → nat_le d 64 ≡ true

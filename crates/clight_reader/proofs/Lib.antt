@@ -10,3 +10,4 @@ pub mod Programs
 pub mod CutTrees
 pub mod CutSteps
 pub mod DeepNodes
+pub mod DeepItems
