@@ -1,22 +1,21 @@
 -- Each mode that is no fault goes on to some item: what is open is closed, with the dullest rest.
-use Rattle.std.proofs.Common.{◌≡◌, ℕ, ◌+◌, ◌≤◌, ◌<◌, Bool, true, false, List, [], ◌∷◌, ◌++◌, All, length, refl, sym, ap, subst, ◌∙◌, append_assoc, append-nil, arith}
+use Rattle.std.proofs.Common.{◌≡◌, ℕ, ◌+◌, ◌≤◌, ◌<◌, false, List, [], ◌∷◌, ◌++◌, length, refl, sym, ap, subst, ◌∙◌, append_assoc, append-nil, arith}
 use Rattle.std.specs.Prelude.{Option, Some, None, map, flat_map}
-use Rattle.std.proofs.lemmas.List.Elements.{All-nil}
 use Rattle.clight_syntax.specs.declared.symbol.Symbol.TheVariants as s
 use Rattle.clight_syntax.specs.declared.symbol.Terminal.{Terminal}
 use Rattle.clight_syntax.specs.declared.tree.Name.{Name}
 use Rattle.clight_syntax.specs.declared.tree.Specifiers.TheVariants as t
-use Rattle.clight_syntax.specs.Trees.{Expr, Variable, Parenthesis, Binary, Prefix, Cast, Index, Select, Assignment, Test, Arguments, NoArguments, Arguments', ForHead, Stmt, Empty, Block, Assign, ReadPort, WritePort, CallOf, If, IfElse, While, Do, For, Return, Stmts, NoStmts, Then, Declared, Declaration, Member, NoInitialiser, Single, Listed, Parameters, Parameters', NoValue, Value, Item, StructItem, GlobalItem, PrototypeItem, FunctionItem}
-use Rattle.clight_syntax.specs.Spelling.{terminal, name_terminal, binary_symbol, prefix_symbol, member_symbol, type_terminals, expr_terminals, assignment_terminals, optional, test_terminals, earlier_argument_terminals, target_terminals, call_terminals, for_terminals, stmt_terminals, stmts_terminals, declared_terminals, declaration_terminals, member_terminals, number_terminals, earlier_number_terminals, initialiser_terminals, earlier_parameter_terminals, header_terminals, local_terminals, item_terminals, level, HasLevel, IsExpression, IsForHead, IsStatement, AreStatements, IsLocal, IsItem}
+use Rattle.clight_syntax.specs.Trees.{Expr, Variable, Parenthesis, Binary, Prefix, Cast, Index, Select, Assignment, Test, NoArguments, Arguments', ForHead, Stmt, Empty, Block, Assign, WritePort, CallOf, If, IfElse, While, Do, For, Return, Stmts, NoStmts, Then, Declared, Declaration, Member, NoInitialiser, Single, Listed, Parameters', NoValue, Value, Item, GlobalItem, PrototypeItem, FunctionItem}
+use Rattle.clight_syntax.specs.Spelling.{terminal, name_terminal, binary_symbol, prefix_symbol, member_symbol, type_terminals, expr_terminals, optional, test_terminals, earlier_argument_terminals, target_terminals, call_terminals, for_terminals, stmt_terminals, stmts_terminals, declared_terminals, declaration_terminals, member_terminals, number_terminals, earlier_number_terminals, initialiser_terminals, earlier_parameter_terminals, header_terminals, local_terminals, item_terminals, level, HasLevel, IsForHead, IsStatement, AreStatements, IsLocal, IsItem}
 use Rattle.clight_reader.specs.Builds.{trees, no_span, no_literal}
-use Rattle.clight_reader.specs.Nodes.{make_name, make_declared, make_local, with_local, make_head, call, struct_item, header, all_parameters, ForStart, ForMiddle, StructFront, FunctionFront}
+use Rattle.clight_reader.specs.Nodes.{make_name, make_declared, make_local, with_local, make_head, call, struct_item, header, ForStart, ForMiddle, StructFront, FunctionFront}
 use Rattle.clight_reader.specs.Forms.{Place, AsStatement, AsFirst, AsStep, Form, InBinary, InPrefix, InCast, InParenthesis, InIndex, InTarget, InValue, InPortValue, InArguments, InIfTest, InWhileTest, InDoTest, InCondition, InReturn, InLocalValue, InIf, InElse, InWhile, InDo, InFor, InBlock, InLocals, InBody, Owner, InSource, InStruct, InFirstParameter, InLaterParameter, InFunction, Pending, CallPending, ReadPending, DoPending, BreakPending, ContinuePending, NumberList, Mode, Operand, Behind, MemberName, CastTag, CastWords, Statement, MayElse, IfWord, WhileWord, DoBody, DoWhile, ForWord, ForFirst, ForCondition, ForStep, ReturnWord, PortWord, FirstArgument, StatementEnd, ItemStart, TypeStart, TagName, Words, Stars, Named, Lengths, LengthNumber, LengthEnd, Members, StructEnd, InitialiserStart, InitialiserNumber, InitialiserEnd, ListStart, ListNumber, ListEnd, HeaderEnd, Finished, Refused}
 use Rattle.clight_reader.specs.Statements.{ended}
 use Rattle.clight_reader.specs.Declarations.{without_lengths, make_length, longer, signed}
 use Rattle.clight_reader.specs.Machine.{refused}
 use Rattle.clight_reader.proofs.ReadExpressions.{weaken, level_low}
 use Rattle.clight_reader.proofs.ReadItems.{MayHaveLengths}
-use Rattle.clight_reader.proofs.OpenForms.{start_terminals, middle_terminals, place_terminals, front_terminals, form_terminals, spell, struct_terminals, owner_terminals, pending_terminals, list_terminals, spelled, IsStart, IsMiddle, IsPlace, IsFront, HoldsStatement, HoldsExpression, IsPending, IsOwner, IsGood}
+use Rattle.clight_reader.proofs.OpenForms.{start_terminals, middle_terminals, place_terminals, front_terminals, spell, struct_terminals, owner_terminals, pending_terminals, list_terminals, spelled, IsStart, IsMiddle, IsPlace, IsFront, HoldsStatement, HoldsExpression, IsPending, IsOwner, IsGood}
 use Rattle.clight_reader.proofs.KeepsGrammar.{looser, All-push}
 use Rattle.clight_reader.proofs.KeepsSpelling.{front_push, head_is, longer_is, else_shape, body_shape, flat_map-push}
 
@@ -407,13 +406,12 @@ fill (InitialiserNumber d q minus) h w =
 fill (InitialiserEnd d i) h w = fill_initialiser d i
 fill (ListStart l) h w = shorter _ (number ∷ []) _ refl (fill_list l None)
 fill (ListNumber l minus) h w = shorter _ (number ∷ []) _ (append_assoc (list_terminals l) (terminal s.Minus minus ∷ []) _) (fill_list l (Some minus))
-fill (ListEnd l n) h w =
-    (
-      GlobalItem (record { declaration = l.declaration; initialiser = Listed l.equals l.left l.earlier n no_span; semicolon = no_span }),
-      brace ∷ (semicolon ∷ []),
-      tt,
-      sym (list_shape (declaration_terminals l.declaration) (flat_map earlier_number_terminals l.earlier) (number_terminals n) (terminal s.Assign l.equals) (terminal s.LeftBrace l.left) brace semicolon),
-    )
+fill (ListEnd l n) h w = (
+  GlobalItem (record { declaration = l.declaration; initialiser = Listed l.equals l.left l.earlier n no_span; semicolon = no_span }),
+  brace ∷ (semicolon ∷ []),
+  tt,
+  sym (list_shape (declaration_terminals l.declaration) (flat_map earlier_number_terminals l.earlier) (number_terminals n) (terminal s.Assign l.equals) (terminal s.LeftBrace l.left) brace semicolon),
+)
 fill (HeaderEnd y) h w = (PrototypeItem (record { header = y; semicolon = no_span }), semicolon ∷ [], tt, refl)
 fill (Finished y) h w = (y, [], w, sym (append-nil (item_terminals y)))
 fill Refused h w = cc

@@ -1,5 +1,5 @@
 -- The limited machine does with what it keeps just what the machine over trees does with the trees.
-use Rattle.std.proofs.Common.{◌≡◌, ℕ, Bool, true, false, cond, List, [], ◌∷◌, ◌++◌, refl, sym, ap, ◌∙◌}
+use Rattle.std.proofs.Common.{◌≡◌, ℕ, Bool, true, false, cond, List, [], ◌∷◌, refl, sym, ap, ◌∙◌}
 use Rattle.std.specs.Prelude.{nat_le, nat_lt, max, Option, Some, None, option_map}
 use Rattle.clight_syntax.specs.declared.span.Span.{Span}
 use Rattle.clight_syntax.specs.declared.symbol.Literal.{Literal}
@@ -14,15 +14,15 @@ use Rattle.clight_syntax.specs.declared.tree.Specifiers.TheVariants as t
 use Rattle.clight_syntax.specs.declared.tree.CallTarget.{CallTarget}
 use Rattle.clight_syntax.specs.declared.tree.SignedNumber.{SignedNumber}
 use Rattle.clight_syntax.specs.Depth.{depth_limit}
-use Rattle.clight_syntax.specs.Trees.{Expr, Variable, Parenthesis, Binary, Prefix, Cast, Index, Select, Stmt, Empty, Block, Assign, WritePort, If, IfElse, While, For, Return, Declared, Declaration, Initialiser, Header, Member, Local, Item}
-use Rattle.clight_reader.specs.Builds.{trees, limited, Noted, limit, least, empty_expr}
+use Rattle.clight_syntax.specs.Trees.{Expr, Parenthesis, Binary, Prefix, Cast, Index, Select, Stmt, Empty, Block, Assign, WritePort, If, IfElse, While, For, Return, Declared, Declaration, Initialiser, Header, Member, Local, Item}
+use Rattle.clight_reader.specs.Builds.{trees, limited, limit, least, empty_expr}
 use Rattle.clight_reader.specs.Nodes.{name_of, tree_name, with_local, ForStart, ForMiddle, StructFront, FunctionFront}
-use Rattle.clight_reader.specs.Forms.{Place, AsStatement, AsFirst, AsStep, Form, InBinary, InPrefix, InCast, InParenthesis, InIndex, InTarget, InValue, InPortValue, InArguments, InIfTest, InWhileTest, InDoTest, InCondition, InReturn, InLocalValue, InIf, InElse, InWhile, InDo, InFor, InBlock, InLocals, InBody, Owner, InSource, InStruct, InFirstParameter, InLaterParameter, InFunction, Pending, CallPending, ReadPending, DoPending, BreakPending, ContinuePending, NumberList, Mode, Operand, Behind, MemberName, CastTag, CastWords, Statement, MayElse, IfWord, WhileWord, DoBody, DoWhile, ForWord, ForFirst, ForCondition, ForStep, ReturnWord, PortWord, FirstArgument, StatementEnd, ItemStart, TypeStart, TagName, Words, Stars, Named, Lengths, LengthNumber, LengthEnd, Members, StructEnd, InitialiserStart, InitialiserNumber, InitialiserEnd, ListStart, ListNumber, ListEnd, HeaderEnd, Finished, Refused}
+use Rattle.clight_reader.specs.Forms.{AsStatement, AsFirst, AsStep, Form, InBinary, InParenthesis, InIndex, InTarget, InValue, InPortValue, InArguments, InIfTest, InWhileTest, InDoTest, InCondition, InReturn, InLocalValue, InIf, InElse, InWhile, InFor, InBlock, InLocals, Owner, InSource, InStruct, InFirstParameter, InLaterParameter, InFunction, Pending, CallPending, NumberList, Mode, Operand, Behind, MemberName, CastTag, CastWords, Statement, MayElse, IfWord, WhileWord, DoBody, DoWhile, ForWord, ForFirst, ForCondition, ForStep, ReturnWord, PortWord, FirstArgument, StatementEnd, ItemStart, TypeStart, TagName, Words, Stars, Named, Lengths, LengthNumber, LengthEnd, Members, StructEnd, InitialiserStart, InitialiserNumber, InitialiserEnd, ListStart, ListNumber, ListEnd, HeaderEnd, Finished, Refused}
 use Rattle.clight_reader.specs.Expressions.{first_word, next_word, close, settle, Settled, settled, strength, binary_of, binds, is_target, infix_at, cast_words, cast_tag, read_pending, operand, member_name, tag_of_cast, in_cast}
 use Rattle.clight_reader.specs.Statements.{finish, flush, ended, close_parenthesis, close_bracket, next_argument, end_expression, begin_value, begin_call, begin_call_to, call_at, mark, act, close_brace, local_words, local_tag, statement, do_while, again, else_arm, may_else, opened, for_word, for_first, for_condition, for_step, return_word, port_word, first_argument, no_earlier, statement_end}
 use Rattle.clight_reader.specs.Declarations.{type_start, tag_name, void_only, struct_start, words, in_stars, open_parameters, open_length, end_declaration, begin_initialiser, next_parameter, end_parameters, without_lengths, named, lengths, length_number, length_end, next_member, struct_end, initialiser_start, initialiser_number, initialiser_end, list_start, list_number, list_end, header_end}
 use Rattle.clight_reader.specs.Machine.{next, State, state, gather, step, run, start, ends_in, ends, refused}
-use Rattle.clight_reader.proofs.CutTrees.{onto-push, cut_expr, cut_assignment, cut_test, add_argument, cut_earlier, cut_call, cut_first, cut_condition, cut_start, cut_middle, cut_head, cut_stmt, cut_stmts, add_member, cut_members, add_parameter, cut_earlier_parameters, cut_header, add_local, cut_front, cut_item, add_item, cut_items, cut_place, cut_form, cut_forms, cut_settled, cut_owner, cut_pending, cut_mode, cut_state}
+use Rattle.clight_reader.proofs.CutTrees.{onto-push, cut_expr, add_argument, cut_start, cut_middle, cut_stmt, add_member, cut_members, add_parameter, cut_header, add_local, cut_front, add_item, cut_items, cut_form, cut_forms, cut_settled, cut_owner, cut_pending, cut_mode, cut_state}
 
 -- ---- open operators
 

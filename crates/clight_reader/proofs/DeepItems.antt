@@ -1,14 +1,13 @@
 -- What the limited machine keeps of items, and what its note says of their nodes.
-use Rattle.std.proofs.Common.{◌≡◌, ℕ, suc, ◌+◌, ◌≤◌, ◌<◌, ◌⊎◌, inl, inr, min, Bool, true, false, List, [], ◌∷◌, ◌++◌, All, Contains, length, refl, sym, ap, ap₂, subst, ◌∙◌, append_assoc, append-nil, arith}
+use Rattle.std.proofs.Common.{◌≡◌, ℕ, suc, ◌≤◌, ◌<◌, ◌⊎◌, inl, inr, min, Bool, true, false, List, [], ◌∷◌, ◌++◌, All, Contains, length, refl, sym, ap, ap₂, subst, ◌∙◌, append_assoc, append-nil, arith}
 use Rattle.std.specs.Prelude.{nat_le, Option, Some, None, flat_map}
 use Rattle.std.proofs.lemmas.Bool.{cases_lt}
 use Rattle.std.proofs.lemmas.List.Elements.{All-nil, All-cons, All-head, All-tail}
-use Rattle.clight_syntax.specs.declared.span.Span.{Span}
-use Rattle.clight_syntax.specs.Trees.{Declared, Declaration, Member, Struct, EarlierParameter, Parameters, NoParameters, Parameters', Header, LocalInitialiser, NoValue, Value, Local, Function, Item, StructItem, GlobalItem, PrototypeItem, FunctionItem}
+use Rattle.clight_syntax.specs.Trees.{Member, Struct, EarlierParameter, Parameters, NoParameters, Parameters', Header, LocalInitialiser, NoValue, Value, Local, Function, Item, StructItem, GlobalItem, PrototypeItem, FunctionItem}
 use Rattle.clight_syntax.specs.Depth.{Node, node, declared_start, declaration_depth, declared_nodes, declaration_nodes, member_nodes, earlier_parameter_nodes, parameters_nodes, header_nodes, local_initialiser_nodes, local_nodes, stmts_nodes, item_nodes, nodes, depth_limit, IsShallow, IsFirstDeep}
-use Rattle.clight_reader.specs.Builds.{limited, Part, Noted, least, too_deep, declared_note, declaration_note}
+use Rattle.clight_reader.specs.Builds.{limited, Noted, least, too_deep, declared_note, declaration_note}
 use Rattle.clight_reader.specs.Nodes.{FunctionFront, no_members, no_parameters, no_locals, no_items, make_local, with_local}
-use Rattle.clight_reader.proofs.CutTrees.{onto, cut_expr, cut_stmts, add_member, cut_members, add_parameter, cut_earlier_parameters, cut_parameters, cut_header, cut_local_initialiser, add_local, cut_front, cut_item, add_item, cut_items}
+use Rattle.clight_reader.proofs.CutTrees.{onto, cut_stmts, add_member, cut_members, add_parameter, cut_earlier_parameters, cut_parameters, cut_header, cut_local_initialiser, add_local, cut_front, cut_item, add_item, cut_items}
 use Rattle.clight_reader.proofs.DeepNodes.{least_none, none_left, none_right, first_deep, both, in_left, in_right, low_is, high_is, shallow_none, deep_some, shallow_is, NoteKept, kept_same, onto_kept, expr_kept, stmts_kept}
 
 -- ---- declared things
@@ -36,7 +35,7 @@ parameters_kept (Parameters' earlier last) =
     let l = flat_map earlier_parameter_nodes earlier in
     let r = declared_nodes last in
     let k : NoteKept (cut_earlier_parameters earlier) earlier l =
-        onto_kept add_parameter earlier_parameter_nodes parameter_kept earlier (no_parameters limited) [] [] (record { deep = refl; value = λ n. refl }) in record {
+    onto_kept add_parameter earlier_parameter_nodes parameter_kept earlier (no_parameters limited) [] [] (record { deep = refl; value = λ n. refl }) in record {
       deep = both l r (cut_earlier_parameters earlier).deep (declared_note last) k.deep (alone (length last.stars) (declared_start last));
       value = λ n. ap (λ i. Parameters' i last) (k.value (in_left l r n));
     }
@@ -86,7 +85,7 @@ front_kept x =
     let k = header_kept x.header in
     let empty : FunctionFront = record { header = x.header; left = x.left; locals = [] } in
     let h : NoteKept (no_locals limited (cut_header x.header) x.left) empty (header_nodes x.header) =
-        record { deep = k.deep; value = λ n. ap (λ z. record { header = z; left = x.left; locals = [] }) (k.value n) } in
+    record { deep = k.deep; value = λ n. ap (λ z. record { header = z; left = x.left; locals = [] }) (k.value n) } in
     locals_kept x.locals (no_locals limited (cut_header x.header) x.left) empty (header_nodes x.header) h
 
 function_kept : (x : Function) → NoteKept (cut_item (FunctionItem x)) (FunctionItem x) (item_nodes (FunctionItem x))
@@ -109,7 +108,7 @@ function_kept x =
 struct_kept : (x : Struct) → NoteKept (cut_item (StructItem x)) (StructItem x) (item_nodes (StructItem x))
 struct_kept x =
     let k : NoteKept (cut_members x.members) x.members (flat_map member_nodes x.members) =
-        onto_kept add_member member_nodes member_kept x.members (no_members limited) [] [] (record { deep = refl; value = λ n. refl }) in record {
+    onto_kept add_member member_nodes member_kept x.members (no_members limited) [] [] (record { deep = refl; value = λ n. refl }) in record {
       deep = k.deep;
       value = λ n.
           ap (λ z. StructItem (record { keyword = x.keyword; tag = x.tag; left = x.left; members = z; right = x.right; semicolon = x.semicolon })) (k.value n);

@@ -1,15 +1,13 @@
 -- What the limited machine keeps of a tree: its depth, its start, the first node in it that is too deep, and the whole tree where
 -- there is none.
-use Rattle.std.proofs.Common.{◌≡◌, ℕ, ◌+◌, ◌≤◌, ◌<◌, min, max, Bool, true, false, cond, List, [], ◌∷◌, ◌++◌, refl, sym, ap, ap₂, subst₂, ◌∙◌, append_assoc, append-nil, arith}
+use Rattle.std.proofs.Common.{◌≡◌, ℕ, ◌+◌, ◌≤◌, ◌<◌, min, max, Bool, true, false, List, [], ◌∷◌, ◌++◌, refl, sym, ap, ap₂, subst₂, ◌∙◌, append_assoc, append-nil, arith}
 use Rattle.std.specs.Prelude.{nat_le, nat_lt, Option, Some, None, flat_map}
 use Rattle.std.proofs.lemmas.Bool.Decides.{nat_tests}
-use Rattle.clight_syntax.specs.declared.span.Span.{Span}
 use Rattle.clight_syntax.specs.Trees.{Expr, Variable, Number, Parenthesis, Binary, Prefix, Cast, Index, Select, Assignment, Test, EarlierArgument, Arguments, NoArguments, Arguments', Call, ForHead, Stmt, Empty, Block, Assign, ReadPort, WritePort, CallOf, If, IfElse, While, Do, For, Break, Continue, Return, Stmts, NoStmts, Then}
-use Rattle.clight_syntax.specs.Depth.{depth, stmt_depth, stmts_depth, expr_start, stmt_start, Node, node, expr_nodes, optional_nodes, assignment_nodes, earlier_argument_nodes, arguments_nodes, for_nodes, stmt_nodes, stmts_nodes, depth_limit}
-use Rattle.clight_reader.specs.Builds.{limited, Part, Noted, Statements, least, too_deep, limit, empty_expr, empty_stmt}
-use Rattle.clight_reader.specs.Nodes.{call, make_head}
+use Rattle.clight_syntax.specs.Depth.{depth, stmt_depth, stmts_depth, expr_start, stmt_start, Node, node, expr_nodes, optional_nodes, assignment_nodes, earlier_argument_nodes, arguments_nodes, for_nodes, stmt_nodes, stmts_nodes}
+use Rattle.clight_reader.specs.Builds.{limited, Part, Noted, least, too_deep, limit, empty_expr, empty_stmt}
 use Rattle.clight_reader.specs.Statements.{no_earlier}
-use Rattle.clight_reader.proofs.CutTrees.{onto, cut_expr, cut_assignment, cut_test, add_argument, cut_earlier, cut_arguments, cut_call, cut_first, cut_condition, middle_of, cut_head, cut_stmt, cut_stmts}
+use Rattle.clight_reader.proofs.CutTrees.{onto, cut_expr, cut_assignment, cut_test, add_argument, cut_earlier, cut_arguments, cut_call, cut_first, cut_condition, cut_head, cut_stmt, cut_stmts}
 
 -- ---- the first of some places
 
@@ -133,8 +131,8 @@ made_kept empty tree x below at deep s d parts h g f w = record {
   depth = depth_by empty tree below at deep (nat_lt below 64) refl ∙ g;
   deep = deep_by empty tree below at deep (nat_lt below 64) refl ∙ ap₂ least (capped (1 + below) d at g ∙ ap (too_deep d) h) f;
   tree = λ n.
-    let l = shallow_is d s (none_left (too_deep d s) (first_deep parts) n) in
-    limit_tree empty tree below at deep (omega arith) ∙ w (none_right (too_deep d s) (first_deep parts) n);
+      let l = shallow_is d s (none_left (too_deep d s) (first_deep parts) n) in
+      limit_tree empty tree below at deep (omega arith) ∙ w (none_right (too_deep d s) (first_deep parts) n);
 }
 
 leaf_kept : {A : Type 0} (tree x : A) (at : ℕ) (deep : Option ℕ) (s : ℕ) (parts : List Node) → at ≡ s → deep ≡ first_deep parts → (first_deep parts ≡ None → tree ≡ x)
@@ -223,7 +221,7 @@ arguments_kept : (x : Arguments) → NoteKept (cut_arguments x) x (arguments_nod
 arguments_kept NoArguments = record { deep = refl; value = λ n. refl }
 arguments_kept (Arguments' earlier last) =
     let k : NoteKept (cut_earlier earlier) earlier (flat_map earlier_argument_nodes earlier) =
-        onto_kept add_argument earlier_argument_nodes argument_kept earlier (no_earlier limited) [] [] (record { deep = refl; value = λ n. refl }) in
+    onto_kept add_argument earlier_argument_nodes argument_kept earlier (no_earlier limited) [] [] (record { deep = refl; value = λ n. refl }) in
     let e = expr_kept last in
     let l = flat_map earlier_argument_nodes earlier in
     let r = expr_nodes last in record {

@@ -14,18 +14,18 @@ use Rattle.clight_syntax.specs.declared.tree.Specifiers.{Specifiers}
 use Rattle.clight_syntax.specs.declared.tree.Specifiers.TheVariants as t
 use Rattle.clight_syntax.specs.declared.tree.CallTarget.{CallTarget}
 use Rattle.clight_syntax.specs.declared.tree.SignedNumber.{SignedNumber}
-use Rattle.clight_syntax.specs.Trees.{Expr, Binary, Prefix, Cast, Assignment, Stmt, Empty, Block, Assign, WritePort, If, IfElse, While, For, Return, Stmts, Declared, Declaration, Initialiser, Header, Member}
-use Rattle.clight_syntax.specs.Spelling.{level, HasLevel, IsExpression, EndsClosed, IsStatement, IsLocal, IsItem}
+use Rattle.clight_syntax.specs.Trees.{Expr, Binary, Prefix, Cast, Stmt, Empty, Block, Assign, WritePort, If, IfElse, While, For, Return, Declared, Declaration, Initialiser, Header, Member}
+use Rattle.clight_syntax.specs.Spelling.{level, HasLevel, IsExpression, EndsClosed, IsStatement, IsLocal}
 use Rattle.clight_reader.specs.Builds.{trees}
-use Rattle.clight_reader.specs.Nodes.{ForStart, ForMiddle, StructFront, FunctionFront}
-use Rattle.clight_reader.specs.Forms.{Place, AsStatement, AsFirst, AsStep, Form, InBinary, InPrefix, InCast, InParenthesis, InIndex, InTarget, InValue, InPortValue, InArguments, InIfTest, InWhileTest, InDoTest, InCondition, InReturn, InLocalValue, InIf, InElse, InWhile, InDo, InFor, InBlock, InLocals, InBody, Owner, InSource, InStruct, InFirstParameter, InLaterParameter, InFunction, Pending, CallPending, ReadPending, DoPending, BreakPending, ContinuePending, NumberList, Mode, Operand, Behind, MemberName, CastTag, CastWords, Statement, MayElse, IfWord, WhileWord, DoBody, DoWhile, ForWord, ForFirst, ForCondition, ForStep, ReturnWord, PortWord, FirstArgument, StatementEnd, ItemStart, TypeStart, TagName, Words, Stars, Named, Lengths, LengthNumber, LengthEnd, Members, StructEnd, InitialiserStart, InitialiserNumber, InitialiserEnd, ListStart, ListNumber, ListEnd, HeaderEnd, Finished, Refused}
+use Rattle.clight_reader.specs.Nodes.{ForStart, ForMiddle, StructFront}
+use Rattle.clight_reader.specs.Forms.{AsStatement, AsFirst, AsStep, Form, InBinary, InPrefix, InCast, InParenthesis, InIndex, InTarget, InValue, InPortValue, InArguments, InIfTest, InWhileTest, InDoTest, InCondition, InReturn, InLocalValue, InIf, InElse, InWhile, InDo, InFor, InBlock, InLocals, InBody, Owner, InSource, InStruct, InFirstParameter, InLaterParameter, InFunction, Pending, CallPending, ReadPending, DoPending, BreakPending, ContinuePending, NumberList, Mode, Operand, Behind, MemberName, CastTag, CastWords, Statement, MayElse, IfWord, WhileWord, DoBody, DoWhile, ForWord, ForFirst, ForCondition, ForStep, ReturnWord, PortWord, FirstArgument, StatementEnd, ItemStart, TypeStart, TagName, Words, Stars, Named, Lengths, LengthNumber, LengthEnd, Members, StructEnd, InitialiserStart, InitialiserNumber, InitialiserEnd, ListStart, ListNumber, ListEnd, HeaderEnd, Finished, Refused}
 use Rattle.clight_reader.specs.Expressions.{first_word, next_word, close, settle, Settled, settled, strength, binary_of, mark_level, binds, is_target, infix_at, cast_words, cast_tag, read_pending, operand, member_name, tag_of_cast, in_cast}
 use Rattle.clight_reader.specs.Statements.{finish, flush, ended, close_parenthesis, close_bracket, next_argument, end_expression, begin_value, begin_call, begin_call_to, call_at, mark, act, close_brace, local_words, local_tag, statement, do_while, again, else_arm, may_else, opened, for_word, for_first, for_condition, for_step, return_word, port_word, first_argument, statement_end}
 use Rattle.clight_reader.specs.Declarations.{type_start, tag_name, void_only, struct_start, words, in_stars, open_parameters, open_length, end_declaration, begin_initialiser, next_parameter, end_parameters, without_lengths, named, lengths, length_number, length_end, next_member, struct_end, initialiser_start, initialiser_number, initialiser_end, list_start, list_number, list_end, header_end}
 use Rattle.clight_reader.specs.Machine.{next}
 use Rattle.clight_reader.proofs.ReadExpressions.{weaken, level_low, level_high}
 use Rattle.clight_reader.proofs.ReadItems.{MayHaveLengths}
-use Rattle.clight_reader.proofs.OpenForms.{IsStart, IsMiddle, IsPlace, IsFront, HoldsStatement, HoldsExpression, HoldsOperand, IsPending, IsOwner, IsGood}
+use Rattle.clight_reader.proofs.OpenForms.{IsStart, IsMiddle, HoldsStatement, HoldsExpression, HoldsOperand, IsPending, IsOwner, IsGood}
 
 pub All-push : {X : Type 0} (P : X → Type 0) (xs : List X) (x : X) → All P xs → P x → All P (xs ++ x ∷ [])
 All-push P xs x h p = All-append P xs (x ∷ []) h (All-cons P x [] p (All-nil P))

@@ -1,5 +1,5 @@
 -- What the machine has read is what its open forms and its mode spell.
-use Rattle.std.proofs.Common.{◌≡◌, ℕ, ◌+◌, ◌≤◌, Bool, true, false, cond, List, [], ◌∷◌, ◌++◌, refl, sym, ap, subst, ◌∙◌, append_assoc, append-nil, arith}
+use Rattle.std.proofs.Common.{◌≡◌, ℕ, ◌≤◌, Bool, true, false, cond, List, [], ◌∷◌, ◌++◌, refl, sym, ap, subst, ◌∙◌, append_assoc, append-nil, arith}
 use Rattle.std.specs.Prelude.{nat_le, Option, Some, None, map, flat_map}
 use Rattle.std.proofs.lemmas.Bool.Decides.{nat_tests}
 use Rattle.std.proofs.lemmas.Grind.{flat_map-append}
@@ -16,16 +16,16 @@ use Rattle.clight_syntax.specs.declared.tree.Specifiers.{Specifiers}
 use Rattle.clight_syntax.specs.declared.tree.Specifiers.TheVariants as t
 use Rattle.clight_syntax.specs.declared.tree.CallTarget.{CallTarget}
 use Rattle.clight_syntax.specs.declared.tree.SignedNumber.{SignedNumber}
-use Rattle.clight_syntax.specs.Trees.{Expr, Variable, Binary, Prefix, Cast, Assignment, Stmt, Empty, Block, Assign, WritePort, If, IfElse, While, For, Return, Stmts, Declared, Declaration, Initialiser, Header, Member, Local}
+use Rattle.clight_syntax.specs.Trees.{Expr, Variable, Binary, Prefix, Cast, Assignment, Stmt, Empty, Block, Assign, WritePort, If, IfElse, While, For, Return, Declared, Declaration, Initialiser, Header, Member, Local}
 use Rattle.clight_syntax.specs.Spelling.{terminal, name_terminal, binary_symbol, prefix_symbol, member_symbol, type_terminals, expr_terminals, assignment_terminals, optional, test_terminals, earlier_argument_terminals, target_terminals, call_terminals, for_terminals, stmt_terminals, stmts_terminals, length_terminals, declared_terminals, declaration_terminals, member_terminals, number_terminals, earlier_number_terminals, initialiser_terminals, earlier_parameter_terminals, header_terminals, local_terminals, level}
 use Rattle.clight_reader.specs.Builds.{trees}
-use Rattle.clight_reader.specs.Nodes.{make_name, make_head, with_local, ForStart, ForMiddle, StructFront, FunctionFront}
+use Rattle.clight_reader.specs.Nodes.{make_head, with_local, ForStart, ForMiddle, StructFront, FunctionFront}
 use Rattle.clight_reader.specs.Forms.{Place, AsStatement, AsFirst, AsStep, Form, InBinary, InPrefix, InCast, InParenthesis, InIndex, InTarget, InValue, InPortValue, InArguments, InIfTest, InWhileTest, InDoTest, InCondition, InReturn, InLocalValue, InIf, InElse, InWhile, InDo, InFor, InBlock, InLocals, InBody, Owner, InSource, InStruct, InFirstParameter, InLaterParameter, InFunction, Pending, CallPending, ReadPending, DoPending, BreakPending, ContinuePending, NumberList, Mode, Operand, Behind, MemberName, CastTag, CastWords, Statement, MayElse, IfWord, WhileWord, DoBody, DoWhile, ForWord, ForFirst, ForCondition, ForStep, ReturnWord, PortWord, FirstArgument, StatementEnd, ItemStart, TypeStart, TagName, Words, Stars, Named, Lengths, LengthNumber, LengthEnd, Members, StructEnd, InitialiserStart, InitialiserNumber, InitialiserEnd, ListStart, ListNumber, ListEnd, HeaderEnd, Finished, Refused}
 use Rattle.clight_reader.specs.Expressions.{first_word, with_char, with_int, with_long, next_word, close, settle, Settled, settled, strength, binary_of, binds, mark_level, is_target, infix_at, cast_words, cast_tag, read_pending, operand, member_name, tag_of_cast, in_cast}
 use Rattle.clight_reader.specs.Statements.{finish, flush, ended, close_parenthesis, close_bracket, next_argument, end_expression, begin_value, call_at, mark, act, close_brace, local_words, local_tag, statement, do_while, again, else_arm, may_else, opened, for_word, for_first, for_condition, for_step, return_word, port_word, first_argument, statement_end}
-use Rattle.clight_reader.specs.Declarations.{type_start, tag_name, void_only, struct_start, words, in_stars, open_parameters, open_length, end_declaration, begin_initialiser, next_parameter, end_parameters, without_lengths, named, lengths, length_number, make_length, longer, length_end, next_member, struct_end, signed, initialiser_start, initialiser_number, initialiser_end, more_numbers, list_start, list_number, list_end, header_end}
+use Rattle.clight_reader.specs.Declarations.{type_start, tag_name, void_only, struct_start, words, in_stars, open_parameters, open_length, end_declaration, begin_initialiser, next_parameter, end_parameters, without_lengths, named, lengths, length_number, make_length, longer, length_end, next_member, struct_end, initialiser_start, initialiser_number, initialiser_end, list_start, list_number, list_end, header_end}
 use Rattle.clight_reader.specs.Machine.{next}
-use Rattle.clight_reader.proofs.OpenForms.{start_terminals, middle_terminals, place_terminals, front_terminals, form_terminals, spell, struct_terminals, owner_terminals, pending_terminals, list_terminals, spelled, HasRead}
+use Rattle.clight_reader.proofs.OpenForms.{start_terminals, middle_terminals, place_terminals, front_terminals, spell, struct_terminals, owner_terminals, pending_terminals, list_terminals, spelled, HasRead}
 
 pub along : (m : Mode trees) (l r : List Terminal) → l ≡ r → HasRead m l → HasRead m r
 along m l r e h = subst (λ z. HasRead m z) e h

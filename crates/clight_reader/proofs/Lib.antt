@@ -11,3 +11,4 @@ pub mod CutTrees
 pub mod CutSteps
 pub mod DeepNodes
 pub mod DeepItems
+pub mod LimitedPrograms

@@ -1,14 +1,14 @@
 -- The machine reads just what a program spells, and what it refuses first is the first fault.
-use Rattle.std.proofs.Common.{◌≡◌, ℕ, suc, ◌+◌, ◌≤◌, ◌<◌, Bool, true, false, cond, List, [], ◌∷◌, ◌++◌, All, length, take, drop, get_or, refl, sym, ap, subst, ◌∙◌, append_assoc, append-nil, inl, inr, add-one, arith}
-use Rattle.std.specs.Prelude.{Option, Some, None, flat_map}
+use Rattle.std.proofs.Common.{◌≡◌, ℕ, suc, ◌≤◌, ◌<◌, Bool, true, false, List, [], ◌∷◌, ◌++◌, length, take, drop, refl, sym, ap, subst, ◌∙◌, append_assoc, append-nil, inl, inr}
+use Rattle.std.specs.Prelude.{Some, None}
 use Rattle.std.proofs.lemmas.Bool.{cases_lt}
-use Rattle.std.proofs.lemmas.List.{take-append-drop, take_more, take_all}
+use Rattle.std.proofs.lemmas.List.{take-append-drop}
 use Rattle.std.proofs.lemmas.List.Elements.{All-head, All-tail, All-nil}
 use Rattle.clight_syntax.specs.declared.symbol.Terminal.{Terminal}
 use Rattle.clight_syntax.specs.Trees.{Item}
 use Rattle.clight_syntax.specs.Spelling.{item_terminals, items_terminals, IsItem, AreItems, Spells, Begins}
 use Rattle.clight_reader.specs.Builds.{trees}
-use Rattle.clight_reader.specs.Forms.{Mode, Operand, ItemStart, Finished, Refused}
+use Rattle.clight_reader.specs.Forms.{Mode, ItemStart, Finished, Refused}
 use Rattle.clight_reader.specs.Machine.{next, State, state, gather, step, run, start, ends_in, ends, refused}
 use Rattle.clight_reader.specs.Faults.{FaultAt}
 use Rattle.clight_reader.proofs.ReadExpressions.{read}
@@ -122,19 +122,18 @@ pub no_program : (l : List Terminal) → refused (run trees (start trees) l).mod
 no_program l h b =
     let c : refused (run trees (start trees) (items_terminals b.0)).mode ≡ false = ap (λ z. refused z.mode) (complete b.0 b.2.0) in
     let e : refused (run trees (start trees) (items_terminals b.0)).mode ≡ true =
-        ap (λ z. refused (run trees (start trees) z).mode) b.2.1 ∙ (ap (λ z. refused z.mode) (run_append l b.1 (start trees)) ∙ run_refused b.1 (run trees (start trees) l) h) in
+    ap (λ z. refused (run trees (start trees) z).mode) b.2.1 ∙ (ap (λ z. refused z.mode) (run_append l b.1 (start trees)) ∙ run_refused b.1 (run trees (start trees) l) h) in
     cc
 
 begins_after : (items : List Item) (l m r : List Terminal) (x : Item) → AreItems items → IsItem x → items_terminals items ++ m ≡ l → item_terminals x ≡ m ++ r → Begins l
-begins_after items l m r x w v e f =
-    (
-      items ++ x ∷ [],
-      r,
-      (
-        All-push IsItem items x w v,
-        flat_map-push item_terminals items x ∙ (ap (λ z. items_terminals items ++ z) f ∙ (sym (append_assoc (items_terminals items) m r) ∙ ap (λ z. z ++ r) e)),
-      ),
-    )
+begins_after items l m r x w v e f = (
+  items ++ x ∷ [],
+  r,
+  (
+    All-push IsItem items x w v,
+    flat_map-push item_terminals items x ∙ (ap (λ z. items_terminals items ++ z) f ∙ (sym (append_assoc (items_terminals items) m r) ∙ ap (λ z. z ++ r) e)),
+  ),
+)
 
 -- some program begins with what leads to no fault
 pub some_program : (l : List Terminal) → refused (run trees (start trees) l).mode ≡ false → Begins l

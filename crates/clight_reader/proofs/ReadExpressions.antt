@@ -1,6 +1,6 @@
 -- What an expression spells is read as that expression.
-use Rattle.std.proofs.Common.{◌≡◌, ℕ, ◌+◌, ◌≤◌, Bool, true, false, cond, List, [], ◌∷◌, ◌++◌, refl, sym, ap, ◌∙◌, append_assoc, append-nil, arith}
-use Rattle.std.specs.Prelude.{nat_le, Option, Some, None}
+use Rattle.std.proofs.Common.{◌≡◌, ℕ, ◌+◌, ◌≤◌, true, false, List, [], ◌∷◌, ◌++◌, refl, ap, ◌∙◌, append_assoc, arith}
+use Rattle.std.specs.Prelude.{nat_le}
 use Rattle.std.proofs.lemmas.Bool.Decides.{nat_tests}
 use Rattle.clight_syntax.specs.declared.span.Span.{Span}
 use Rattle.clight_syntax.specs.declared.symbol.Symbol.{Symbol}
@@ -17,9 +17,9 @@ use Rattle.clight_syntax.specs.declared.tree.Specifiers.TheVariants as t
 use Rattle.clight_syntax.specs.Trees.{Expr, Variable, Number, Parenthesis, Binary, Prefix, Cast, Index, Select}
 use Rattle.clight_syntax.specs.Spelling.{terminal, name_terminal, binary_symbol, prefix_symbol, member_symbol, type_terminals, expr_terminals, level, HasLevel}
 use Rattle.clight_reader.specs.Builds.{trees}
-use Rattle.clight_reader.specs.Forms.{Form, InBinary, InPrefix, InCast, InParenthesis, InIndex, InTarget, Mode, Operand, Behind, MemberName, Refused}
-use Rattle.clight_reader.specs.Expressions.{Settled, settled, settle, binds, binary_of, is_target, infix_at, operand}
-use Rattle.clight_reader.specs.Statements.{act, mark}
+use Rattle.clight_reader.specs.Forms.{Form, InBinary, InPrefix, InCast, InParenthesis, InIndex, InTarget, Mode, Operand, Behind, MemberName}
+use Rattle.clight_reader.specs.Expressions.{Settled, settled, settle, binds, is_target, infix_at, operand}
+use Rattle.clight_reader.specs.Statements.{act}
 use Rattle.clight_reader.specs.Machine.{next}
 
 -- the mode behind some terminals
