@@ -16,8 +16,10 @@ use Rattle.clight_reader.specs.Machine.{refused}
 use Rattle.clight_reader.proofs.ReadExpressions.{weaken, level_low}
 use Rattle.clight_reader.proofs.ReadItems.{MayHaveLengths}
 use Rattle.clight_reader.proofs.OpenForms.{start_terminals, middle_terminals, place_terminals, front_terminals, spell, struct_terminals, owner_terminals, pending_terminals, list_terminals, spelled, IsStart, IsMiddle, IsPlace, IsFront, HoldsStatement, HoldsExpression, IsPending, IsOwner, IsGood}
-use Rattle.clight_reader.proofs.KeepsGrammar.{looser, All-push}
-use Rattle.clight_reader.proofs.KeepsSpelling.{front_push, head_is, longer_is, else_shape, body_shape, flat_map-push}
+use Rattle.clight_reader.proofs.GrammarExpressions.{looser, All-push}
+use Rattle.clight_reader.proofs.SpellingExpressions.{front_push, head_is, else_shape, flat_map-push}
+use Rattle.clight_reader.proofs.SpellingDeclarations.{longer_is}
+use Rattle.clight_reader.proofs.SpellingStatements.{body_shape}
 
 -- an item begins with the terminals
 abbrev pub Begun : List Terminal → Type 0

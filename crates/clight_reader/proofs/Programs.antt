@@ -14,8 +14,10 @@ use Rattle.clight_reader.specs.Faults.{FaultAt}
 use Rattle.clight_reader.proofs.ReadExpressions.{read}
 use Rattle.clight_reader.proofs.ReadItems.{read_item}
 use Rattle.clight_reader.proofs.OpenForms.{spelled, HasRead, IsGood}
-use Rattle.clight_reader.proofs.KeepsGrammar.{All-push, next_good}
-use Rattle.clight_reader.proofs.KeepsSpelling.{flat_map-push, next_read}
+use Rattle.clight_reader.proofs.GrammarExpressions.{All-push}
+use Rattle.clight_reader.proofs.KeepsGrammar.{next_good}
+use Rattle.clight_reader.proofs.SpellingExpressions.{flat_map-push}
+use Rattle.clight_reader.proofs.KeepsSpelling.{next_read}
 use Rattle.clight_reader.proofs.Continues.{fill}
 
 -- ---- complete
