@@ -1,4 +1,3 @@
-pub mod Examples
 pub mod ReadExpressions
 pub mod ReadStatements
 pub mod ReadItems
@@ -22,3 +21,4 @@ pub mod DeepNodes
 pub mod DeepItems
 pub mod LimitedPrograms
 pub mod OneFault
+pub mod Examples

@@ -1,3 +1,4 @@
+pub mod Faults
 pub mod Builds
 pub mod Nodes
 pub mod Forms
@@ -5,4 +6,3 @@ pub mod Expressions
 pub mod Statements
 pub mod Declarations
 pub mod Machine
-pub mod Faults
