@@ -10,3 +10,4 @@ pub mod Running
 pub mod Disassembly
 pub mod Stages
 pub mod Top
+pub mod Once
