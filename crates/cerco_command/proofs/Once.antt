@@ -1,5 +1,5 @@
 -- The files determine what a command answers.
-use Rattle.std.proofs.Common.{◌≡◌, ℕ, ◌+◌, ◌<◌, ◌≤◌, List, [], ◌∷◌, length, take, Result, Ok, Err, Option, Some, None, IsTrue, refl, sym, ap, subst, ◌∙◌, arith, inl, inr, ◌⊎◌}
+use Rattle.std.proofs.Common.{◌≡◌, ℕ, ◌+◌, ◌<◌, List, [], ◌∷◌, take, Result, Ok, Err, Option, Some, None, IsTrue, refl, sym, ap, subst, ◌∙◌, arith, inl, inr, ◌⊎◌}
 use Rattle.cerco_base.specs.States.{FilesState}
 use Rattle.object_hex.specs.declared.reading.faults.HexFault.{HexFault}
 use Rattle.object_hex.specs.declared.reading.faults.MapFault.{MapFault}
@@ -24,7 +24,7 @@ use Rattle.cerco_command.specs.Running.{RunTexts, RunsTo, PrintsRun, AreTextsOf,
 use Rattle.cerco_command.specs.Top.{Means, UsageMeans}
 use Rattle.cerco_command.specs.Words.{BuildFiles, RunRequest, Request, Builds, Runs, Lists}
 use Rattle.cerco_command.specs.declared.status.Status.{Status}
-use Rattle.cerco_command.specs.declared.status.Status.TheVariants.{Done, NoFile, Usage, Refused, FileFault, OutFault, BadInput, Reserved, NoMemory}
+use Rattle.cerco_command.specs.declared.status.Status.TheVariants.{Done, NoFile, Usage, Refused, FileFault, BadInput, Reserved, NoMemory}
 use Rattle.cerco_command.proofs.RunOnce.{one_stop}
 use Rattle.cerco_command.proofs.ListOnce.{one_listing}
 
