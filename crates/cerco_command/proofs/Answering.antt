@@ -1,8 +1,7 @@
 -- What is answered where a text is put, whole or by pieces.
-use Rattle.std.proofs.Common.{◌≡◌, ℕ, ◌+◌, ◌<◌, ◌≤◌, ◌⊎◌, List, [], ◌++◌, length, Result, Ok, Err, refl, sym, ap, subst, ◌∙◌, arith, inl, inr, append_assoc, append-nil, length-append}
-use Rattle.std.specs.Result.{IsErrAnd}
+use Rattle.std.proofs.Common.{◌≡◌, ℕ, ◌+◌, ◌<◌, ◌≤◌, ◌⊎◌, List, [], ◌++◌, length, Err, refl, sym, ap, subst, ◌∙◌, arith, inl, inr, append_assoc, append-nil, length-append}
 use Rattle.cerco_base.specs.States.{SinkState}
-use Rattle.cerco_base.specs.Calls.{Keeps, Adds, AddsPrefix, PutsText}
+use Rattle.cerco_base.specs.Calls.{Adds, AddsPrefix, PutsText}
 use Rattle.cerco_base.specs.declared.faults.IoFault.{IoFault}
 use Rattle.cerco_base.specs.declared.faults.IoFault.TheVariants as Io
 use Rattle.cerco_base.proofs.Putting.{SoFar, keeps_on, adds_on, keeps_same, rose_since}
@@ -10,11 +9,7 @@ use Rattle.cerco_command.specs.Answers.{FellShort, Says, Answers}
 use Rattle.cerco_command.specs.Stages.{PutsFront}
 use Rattle.cerco_command.specs.Status.{status_of}
 use Rattle.cerco_command.specs.declared.status.Status.{Status}
-use Rattle.cerco_command.specs.declared.status.Status.TheVariants.{Done, NoFile, Usage, Refused, FileFault, OutFault, BadInput, Reserved, NoMemory}
-
--- a text is put whole
-pub said : {X : Type 0} (o p : SinkState) (status : Status) (text : List ℕ) (x : X) → PutsText o p text (Ok x) → Says o p status text status
-said o p status text x puts = record { keeps = puts.keeps; puts = inl (refl, puts.whole) }
+use Rattle.cerco_command.specs.declared.status.Status.TheVariants.{OutFault, NoMemory}
 
 -- the status of a fault while a text is put
 fell : {X : Type 0} (o p : SinkState) (text : List ℕ) (fault : IoFault) → PutsText {T = X} o p text (Err fault) → FellShort o p text (status_of fault)
@@ -38,15 +33,9 @@ pub says_nothing : (o : SinkState) (status : Status) → Says o o status [] stat
 says_nothing o status = record { keeps = keeps_same o; puts = inl (refl, λ h. sym (append-nil o.bytes)) }
 
 later_fell : (o p q : SinkState) (text whole : List ℕ) (status : Status) → o.faults ≤ p.faults → length text ≤ length whole → FellShort p q text status → FellShort o q whole status
-later_fell o p q text whole Done l n f = absurd f
-later_fell o p q text whole NoFile l n f = absurd f
-later_fell o p q text whole Usage l n f = absurd f
-later_fell o p q text whole Refused l n f = absurd f
-later_fell o p q text whole FileFault l n f = absurd f
 later_fell o p q text whole OutFault l n f = let some = f.1 in (rose_since o.faults p.faults q.faults l f.0, omega arith)
-later_fell o p q text whole BadInput l n f = absurd f
-later_fell o p q text whole Reserved l n f = absurd f
 later_fell o p q text whole NoMemory l n f = omega arith
+later_fell o p q text whole status l n f = absurd f
 
 -- the rest of a text is put, with a status that is meant with the whole text
 pub says_rest : (o p q : SinkState) (text rest : List ℕ) (meant status : Status) → SoFar o p text rest → Says p q meant rest status → Says o q meant text status
@@ -99,12 +88,3 @@ front_put o p q text before after a f =
       whole = append_assoc a.front f.front after ∙ (ap (λ (x : List ℕ). a.front ++ x) f.whole ∙ a.whole);
       added = adds_on o p q a.front f.front a.keeps a.added f.added;
     }
-
--- what is pending all stays so
-pub front_kept : (o : SinkState) (pending : List ℕ) → PutsFront o o pending pending
-front_kept o pending = record { keeps = keeps_same o; front = []; whole = refl; added = λ h. sym (append-nil o.bytes) }
-
--- what is pending is put whole
-pub front_whole : {X : Type 0} (o p : SinkState) (pending after : List ℕ) (x : X) → after ≡ [] → PutsText o p pending (Ok x) → PutsFront o p pending after
-front_whole o p pending after x none puts =
-    record { keeps = puts.keeps; front = pending; whole = ap (λ (l : List ℕ). pending ++ l) none ∙ append-nil pending; added = puts.whole }

@@ -1,5 +1,5 @@
 -- How `build` ends, from what its stages did.
-use Rattle.std.proofs.Common.{◌≡◌, ℕ, ◌≤◌, List, [], ◌∷◌, length, take, take_all, Bool, true, false, not, ◌&&◌, bytes_eq, IsTrue, Option, Some, None, option_map, cond, codes, refl, sym, ap, subst, ◌∙◌, arith, inl, inr, ◌⊎◌}
+use Rattle.std.proofs.Common.{◌≡◌, ℕ, ◌≤◌, List, [], ◌∷◌, length, take, take_all, Bool, true, false, not, ◌&&◌, bytes_eq, IsTrue, Some, None, refl, sym, ap, subst, ◌∙◌, arith, inl, inr, ◌⊎◌}
 use Rattle.std.proofs.lemmas.Bool.{true≢false}
 use Rattle.std.proofs.lemmas.Slice.Eq.{bytes_eq-Decides}
 use Rattle.std.proofs.lemmas.List.{length-take}
@@ -11,10 +11,10 @@ use Rattle.cerco_command.specs.Answers.{AreWritten, ArePartlyWritten}
 use Rattle.cerco_command.specs.Building.{AreCompiled, outputs, Builds, PartlyBuilds, IsOutput, BuildMeans}
 use Rattle.cerco_command.specs.Inputs.{IsRead, CannotRead}
 use Rattle.cerco_command.specs.Messages.{no_file}
-use Rattle.cerco_command.specs.Stages.{IsNameOf, CannotWrite, Finishes, BuildsOn}
+use Rattle.cerco_command.specs.Stages.{IsNameOf, BuildsOn}
 use Rattle.cerco_command.proofs.Writing.{written_from, partly_from}
 use Rattle.cerco_command.specs.declared.status.Status.{Status}
-use Rattle.cerco_command.specs.declared.status.Status.TheVariants.{Done, NoFile, Usage, Refused, FileFault, OutFault, BadInput, Reserved, NoMemory}
+use Rattle.cerco_command.specs.declared.status.Status.TheVariants.{Done, NoFile, Refused, FileFault, NoMemory}
 
 -- names that differ one way differ the other way
 differ_back : (a b : List ℕ) → bytes_eq a b ≡ false → bytes_eq b a ≡ false
@@ -105,21 +105,16 @@ module _ (files : BuildFiles) (text : List ℕ) (s t u : FilesState) (later : s.
 
   pub built : HaveDifferentNames files → (status : Status) (line : List ℕ) → BuildsOn files text t u status line → BuildMeans files s u status line
   built d Done line b = (b.finishes.0, all (different files d) b.hex b.map b.annotated b.texts b.finishes.1)
-  built d NoFile line b = absurd b.finishes.0
-  built d Usage line b = absurd b.finishes.0
   built d Refused line b = (b.0, λ h. let r = read h in record { source = r.0; read = r.1; no_program = no_whole text r.0 r.2 b.1; same = λ q. b.2 (known h) q ∙ same h q })
   built d FileFault line b =
       let why = b.finishes.0 in
       (why.0, rose_since s.faults t.faults u.faults later why.1, inr (is_output b.hex b.map b.annotated why.2, part b.hex b.map b.annotated b.texts b.finishes.1))
-  built d OutFault line b = absurd b.finishes.0
-  built d BadInput line b = absurd b.finishes.0
-  built d Reserved line b = absurd b.finishes.0
   built d NoMemory line (inl b) = (b.0, λ h. inl (λ q. b.1 (known h) q ∙ same h q))
   built d NoMemory line (inr b) = (b.finishes.0, λ h. inr (part b.hex b.map b.annotated b.texts b.finishes.1 h))
+  built d status line b = absurd b.finishes.0
 
 -- the source couldn't be read
 pub not_built : (files : BuildFiles) (s t : FilesState) (status : Status) (line : List ℕ) → (IsTrue s.known → SameFiles s t) → CannotRead (files.source ∷ []) s t status line → BuildMeans files s t status line
-not_built files s t Done line same c = absurd c
 not_built files s t NoFile line same c = (c.1 ∙ ap no_file (the_source c.2), λ h. (none (c.3 h), same h))
   where
     the_source : (c.0 ≡ files.source) ⊎ ⊥ → c.0 ≡ files.source
@@ -128,14 +123,10 @@ not_built files s t NoFile line same c = (c.1 ∙ ap no_file (the_source c.2), �
     none : ((c.0 ≡ files.source) × (s.file files.source ≡ None)) ⊎ (((bytes : List ℕ) × (s.file files.source ≡ Some bytes)) × ⊥) → s.file files.source ≡ None
     none (inl m) = m.1
     none (inr m) = absurd m.1
-not_built files s t Usage line same c = absurd c
-not_built files s t Refused line same c = absurd c
 not_built files s t FileFault line same c = (c.0, c.1, inl (the_source c.2, same))
   where
     the_source : (t.last_fault ≡ files.source) ⊎ ⊥ → t.last_fault ≡ files.source
     the_source (inl e) = e
     the_source (inr e) = absurd e
-not_built files s t OutFault line same c = absurd c
-not_built files s t BadInput line same c = absurd c
-not_built files s t Reserved line same c = absurd c
 not_built files s t NoMemory line same c = (c, λ h. inl (same h))
+not_built files s t status line same c = absurd c

@@ -12,4 +12,7 @@ mod Built
 mod EventTexts
 mod RunSteps
 mod RunEnds
+mod RunOnce
+mod ListOnce
+mod Once
 mod ListSteps

@@ -1,5 +1,5 @@
 -- How a run goes on, where it stops, and that it stops.
-use Rattle.std.proofs.Common.{◌≡◌, ℕ, zero, suc, ◌+◌, ◌-◌, ◌<◌, ◌≤◌, List, [], ◌∷◌, ◌++◌, length, map, Option, Some, None, Bool, true, false, cond, Result, Ok, Err, refl, sym, ap, subst, ◌∙◌, arith, inl, inr, ◌⊎◌, append_assoc, append-nil, below_more, lit<, lit≤, length-append}
+use Rattle.std.proofs.Common.{◌≡◌, ℕ, zero, suc, ◌+◌, ◌-◌, ◌<◌, ◌≤◌, List, [], ◌∷◌, ◌++◌, length, map, Option, Some, None, Bool, true, false, cond, Err, refl, sym, ap, subst, ◌∙◌, arith, inl, inr, ◌⊎◌, append_assoc, below_more, lit≤, length-append}
 use Rattle.std.specs.List.{flat_map}
 use Rattle.std.proofs.lemmas.Bool.{cases_lt}
 use Rattle.std.proofs.lemmas.List.Concat.{flat_map-append}
@@ -51,7 +51,7 @@ step_cycles code labels s e t h = by_instr (instr_at code s.pc) h
     by_instr None g = absurd cc
     by_instr (Some i) g = by_halt i (halts i s.pc) g
 
-after_last : {M : Type 0} (X : System M) (k : ℕ) (s : M) → after X (suc k) s ≡ X.step (after X k s)
+pub after_last : {M : Type 0} (X : System M) (k : ℕ) (s : M) → after X (suc k) s ≡ X.step (after X k s)
 after_last X zero s = refl
 after_last X (suc k) s = after_last X k (X.step s)
 
@@ -87,7 +87,7 @@ module _ (m : Setup) (limit : ℕ) where
       ∙ ap (λ (l : List ℕ). lines_of k ++ l)
       (timed_lines (state_after m k).cycles (made_by (step_after m k)) ∙ ap (λ (v : Moved). event_lines (state_after m k).cycles (made_by v)) h)
 
-  begun_run : Underway (reset m.script) []
+  pub begun_run : Underway (reset m.script) []
   unfolding state_after trace
   begun_run = record { steps = 0; goes_on = λ k before. absurd (omega arith); here = refl; printed = refl }
 

@@ -1,12 +1,11 @@
 -- Lists of five words and of two, and what holds of the requests that words are.
-use Rattle.std.proofs.Common.{◌≡◌, ℕ, ◌<◌, ◌≤◌, List, [], ◌∷◌, length, map, refl, sym, ap, subst, ◌∙◌, arith, Option, None, Some, Bool, true, false, not, ◌&&◌, cond, bytes_eq, codes, get_or, option_map}
+use Rattle.std.proofs.Common.{◌≡◌, ℕ, ◌<◌, ◌≤◌, List, [], ◌∷◌, length, map, refl, sym, ap, subst, ◌∙◌, arith, Option, None, Some, Bool, true, false, ◌&&◌, cond, bytes_eq, codes, get_or}
 use Rattle.std.specs.Prelude.{nat_le, decimal, ◌≢◌}
-use Rattle.std.specs.Option.{option_or}
 use Rattle.std.specs.Str.Parse.{digits_value}
 use Rattle.std.proofs.lemmas.Bool.{leb-true, le-leb}
 use Rattle.std.proofs.lemmas.Fmt.{decimal_is_IsNumeral}
 use Rattle.std.proofs.lemmas.Slice.Eq.{bytes_eq-Decides}
-use Rattle.cerco_command.specs.Words.{BuildFiles, RunRequest, Request, Builds, Runs, Lists, HaveDifferentNames, IsWellFormed, of_five, build_in, build_of, is_build, is_name, has_run_names, is_limit, run_in, run_of, list_of, request_of}
+use Rattle.cerco_command.specs.Words.{BuildFiles, RunRequest, HaveDifferentNames, of_five, build_of, is_build, is_name, has_run_names, is_limit, run_of}
 
 pub five_short : {X R : Type 0} (read : List ℕ → List ℕ → List ℕ → List ℕ → List ℕ → Option R) (f : X → List ℕ) (ws : List X) → length ws < 5 → of_five read (map f ws) ≡ None
 five_short read f [] h = refl

@@ -12,3 +12,4 @@ pub mod Running
 pub mod Disassembly
 pub mod Stages
 pub mod Top
+pub mod Once

@@ -5,10 +5,9 @@ use Rattle.std.specs.List.{flat_map}
 use Rattle.cerco_base.specs.declared.events.Event.{Event}
 use Rattle.cerco_base.specs.States.{FilesState, SameFiles}
 use Rattle.cerco_base.specs.Headline.{after}
-use Rattle.sim51.specs.declared.events.Events.{Events}
 use Rattle.sim51.specs.State.{State}
 use Rattle.sim51.specs.Step.{Moved, Halts, Reserved, Goes, step}
-use Rattle.sim51.specs.Runs.{Running, object, events_of}
+use Rattle.sim51.specs.Runs.{object, events_of}
 use Rattle.sim51.specs.Places.{LoadedMachine}
 use Rattle.cerco_command.specs.Answers.{NamedText}
 use Rattle.cerco_command.specs.Messages.{event_line, end_line, stop_line, reserved_line}

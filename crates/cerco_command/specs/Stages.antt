@@ -1,6 +1,6 @@
 -- The stages of the commands: what a reply is, how `build` compiles a source and writes the outputs, and how a text is put by
 -- pieces. (The compiler's own.)
-use Rattle.std.specs.Prelude.{◌≡◌, ℕ, ◌+◌, ◌<◌, length, ◌≤◌, List, [], ◌∷◌, ◌++◌, Option, Some, None, Result, OnOk, OnErr, IfOk, IfErr, IsTrue, string_bytes, ◌⊎◌}
+use Rattle.std.specs.Prelude.{◌≡◌, ℕ, ◌+◌, ◌<◌, length, ◌≤◌, List, [], ◌∷◌, ◌++◌, Option, Some, None, Result, OnOk, OnErr, IfErr, IsTrue, string_bytes, ◌⊎◌}
 use Rattle.cerco_base.specs.Causes.{Rose}
 use Rattle.cerco_base.specs.States.{FilesState, SinkState, SameFiles}
 use Rattle.cerco_base.specs.Calls.{Keeps, Adds}

@@ -5,6 +5,7 @@ ghost use Rattle.std.specs.Prelude.{map, string_bytes, Some};
 ghost use Rattle.cerco_command.specs.Words.{request_in, request_of, IsWellFormed};
 ghost use Rattle.cerco_command.specs.Answers.{Answers, EndsWith};
 ghost use Rattle.cerco_command.specs.Top.{Means};
+ghost use Rattle.cerco_command.specs.Once.{MeansOnce};
 
 pub mod building;
 pub mod inputs;
@@ -57,7 +58,9 @@ fn carry_out<F: Files, O: Sink>(alloc: Global, words: &[String], files: &mut F, 
 
 /// The whole program: its words after the program's name, its files and its output. The result is the exit status.
 pub fn cerco<F: Files, O: Sink>(alloc: Global, words: &[String], files: &mut F, out: &mut O) -> u8
-    ensures { EndsWith (Means (request_of (map string_bytes words.now)) (F.state files.old) (F.state files.new)) (O.state out.old) (O.state out.new) result }
+    ensures ends { EndsWith (Means (request_of (map string_bytes words.now)) (F.state files.old) (F.state files.new)) (O.state out.old) (O.state out.new) result }
+    // the files determine what is meant, but for faults and want of memory
+    ensures once { MeansOnce (Means (request_of (map string_bytes words.now))) }
 {
     carry_out(alloc, words, files, out).code()
 }

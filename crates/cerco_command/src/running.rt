@@ -1,11 +1,12 @@
 //! The command `run`.
-ghost use Rattle.std.specs.Prelude.{◌≡◌, ◌≤◌, ◌<◌, ◌^◌, length, OnOk, IfOk, IfErr, IsTrue, string_bytes};
+ghost use Rattle.std.specs.Prelude.{◌≡◌, ℕ, ◌≤◌, ◌<◌, ◌^◌, length, OnOk, IfOk, IfErr, IsTrue, string_bytes};
 ghost use Rattle.cerco_base.specs.States.{SameFiles};
 ghost use Rattle.cerco_base.specs.Memory.{sound_sink_state};
 ghost use Rattle.sim51.specs.State.{reset};
 ghost use Rattle.cerco_command.specs.Answers.{Answers};
 ghost use Rattle.cerco_command.specs.Inputs.{CannotRead, longest, NoneTooLong, AreObject};
-ghost use Rattle.cerco_command.specs.Running.{names_of, texts_of, with_names, AreTextsOf, setup_of, RunsTo, RunMeans, RunMeansFor, CannotLoad};
+ghost use Rattle.cerco_command.specs.Running.{Setup, names_of, texts_of, with_names, AreTextsOf, setup_of, RunsTo, RunMeans, RunMeansFor, CannotLoad};
+ghost use Rattle.cerco_command.specs.Once.{StopsOnce};
 ghost use Rattle.cerco_command.specs.Stages.{StepPrinted};
 ghost use Rattle.cerco_command.specs.Words.{run_of_words};
 
@@ -139,7 +140,9 @@ fn run_inputs<O: Sink>(alloc: Global, words: &RunWords, inputs: &Inputs, out: &m
 /// cycles or to the reserved opcode.
 pub fn run<F: Files, O: Sink>(alloc: Global, words: &RunWords, files: &mut F, out: &mut O) -> Status
     requires { words.now.limit ≤ 1000000000 }
-    ensures { Answers (RunMeans (run_of_words words.now) (F.state files.old) (F.state files.new)) (O.state out.old) (O.state out.new) result }
+    ensures answers { Answers (RunMeans (run_of_words words.now) (F.state files.old) (F.state files.new)) (O.state out.old) (O.state out.new) result }
+    // every run has one stop, which is at the reserved opcode exactly where the machine reaches that below the limit
+    ensures one_stop { (m : Setup) (limit : ℕ) → StopsOnce m limit }
 {
     match read_inputs(alloc, words, files) {
         Ok(inputs) => run_inputs(alloc, words, &inputs, out),

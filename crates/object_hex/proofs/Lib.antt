@@ -1,12 +1,12 @@
 mod Raised
 pub mod HexBack
-mod HexWalk
+pub mod HexWalk
 mod Lines
 mod Loops
 mod Addresses
 mod Behind
 pub mod MapBack
-mod Maps
+pub mod Maps
 mod Places
 mod RecordForm
 mod Splits

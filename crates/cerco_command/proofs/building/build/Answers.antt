@@ -1,5 +1,5 @@
 use Rattle.cerco_command.specs.Words.{files_of}
-use Rattle.cerco_command.proofs.Built.{built, not_built}
+use Rattle.cerco_command.proofs.Built.{built}
 use Rattle.cerco_command.proofs.building.build.Goals as goal
 
 pub returns-in-Ok : goal.returns-in-Ok

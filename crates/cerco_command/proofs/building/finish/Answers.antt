@@ -1,4 +1,3 @@
-use Rattle.cerco_base.specs.Memory.{sound_sink_state}
 use Rattle.cerco_command.specs.Building.{outputs}
 use Rattle.cerco_command.specs.Words.{files_of}
 use Rattle.cerco_command.proofs.Writing.{finish_failed}

@@ -1,4 +1,3 @@
-use Rattle.std.proofs.Common.{[], ◌∷◌}
 use Rattle.cerco_command.proofs.Writing.{written_first, writing_failed}
 use Rattle.cerco_command.proofs.building.write_texts.Goals as goal
 

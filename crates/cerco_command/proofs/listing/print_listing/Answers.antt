@@ -1,10 +1,4 @@
-use Rattle.std.proofs.Common.{arith, length, sym, subst, List, ℕ}
-use Rattle.cerco_base.specs.Memory.{sound_sink_state}
-use Rattle.cerco_command.specs.Answers.{Says, Answers}
-use Rattle.cerco_command.specs.Disassembly.{ListsTo}
-use Rattle.cerco_command.specs.declared.status.Status.{Status}
-use Rattle.cerco_command.specs.declared.status.Status.TheVariants as Is
-use Rattle.cerco_command.proofs.ListSteps.{started, goes_on_printing, reserved_printed, end_printed, pending_lost, pending_unput}
+use Rattle.cerco_command.proofs.ListSteps.{goes_on_printing, reserved_printed, end_printed, pending_lost, pending_unput}
 use Rattle.cerco_command.proofs.listing.print_listing.Goals as goal
 
 pub returns-in-Ok-None : goal.returns-in-Ok-None

@@ -1,4 +1,4 @@
-use Rattle.std.proofs.Common.{◌++◌, codes, decimal, sym, append_assoc}
+use Rattle.std.proofs.Common.{codes, decimal, sym, append_assoc}
 use Rattle.cerco_base.proofs.PuttingPieces.{begun_as, piece_put, last_put, piece_failed}
 use Rattle.cerco_command.specs.Messages.{line_about}
 use Rattle.cerco_command.proofs.printing.put_count.Goals as goal

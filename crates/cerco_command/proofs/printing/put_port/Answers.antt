@@ -1,4 +1,4 @@
-use Rattle.std.proofs.Common.{◌≡◌, List, ℕ, ◌++◌, codes, decimal, sym, append_assoc}
+use Rattle.std.proofs.Common.{List, ℕ, ◌++◌, codes, decimal, sym, append_assoc}
 use Rattle.cerco_base.proofs.PuttingPieces.{begun_as, piece_put, last_put, piece_failed}
 use Rattle.sim51.specs.Locations.{port_number}
 use Rattle.cerco_command.specs.Messages.{line_about}

@@ -1,5 +1,5 @@
-use Rattle.std.proofs.Common.{rules, ◌≡◌, ◌&&◌, Bool, true, false, string_bytes, sym, ap, ◌∙◌, refl}
-use Rattle.cerco_command.specs.Words.{run_in, has_run_names, is_limit}
+use Rattle.std.proofs.Common.{rules, ◌≡◌, ◌&&◌, Bool, true, false, string_bytes, refl}
+use Rattle.cerco_command.specs.Words.{run_in, has_run_names}
 use Rattle.cerco_command.proofs.WordLists.{five_there, limit_some, limit_none}
 use Rattle.cerco_command.proofs.words.read_run.Goals as goal
 

@@ -1,6 +1,6 @@
-use Rattle.std.proofs.Common.{◌≡◌, Some, map, option_map, string_bytes, sym, ap, ◌∙◌}
-use Rattle.cerco_command.specs.Words.{build_of, run_of, files_of, run_of_words}
-use Rattle.cerco_command.proofs.WordLists.{build_differs, run_small}
+use Rattle.std.proofs.Common.{map, option_map, string_bytes, sym, ap, ◌∙◌}
+use Rattle.cerco_command.specs.Words.{files_of}
+use Rattle.cerco_command.proofs.WordLists.{build_differs}
 use Rattle.cerco_command.proofs.words.read_words.Goals as goal
 
 pub returns-in-Some-clause-well_formed : goal.returns-in-Some-clause-well_formed
