@@ -10,7 +10,10 @@ use Rattle.object_hex.specs.HexMeaning.{IsHexText}
 use Rattle.object_hex.specs.MapMeaning.{IsMapText}
 use Rattle.sim51.specs.Runs.{object, cycles_of_run}
 use Rattle.cerco_command.specs.Words.{BuildFiles}
-use Rattle.cerco_command.specs.PortPrograms.{IsPortProgram, IsNoPortProgram, meaning}
+use Rattle.cerco_base.specs.declared.reasons.Reason.{Reason}
+use Rattle.clight_reader.specs.Reasons.{HasReason}
+use Rattle.cerco_command.specs.PlainPrograms.{Plain, IsPlainProgram, IsOtherProgram, meaning}
+use Rattle.cerco_command.specs.Refusals.{refused}
 use Rattle.cerco_command.specs.Answers.{NamedText, ArePartlyWritten}
 use Rattle.cerco_command.specs.Messages.{no_file, unsupported, file_fault}
 use Rattle.cerco_command.specs.declared.status.Status.{Status}
@@ -21,9 +24,9 @@ use Rattle.cerco_command.specs.declared.status.Status.TheVariants.{Done, NoFile,
 -- port readings and port writings of the meaning, and has ended exactly if the meaning has. The annotated source without its
 -- annotations is the source.
 pub record IsCompiled (source code labels annotated : List ℕ) : Type 0 where
-  pub values : List ℕ
-  pub program : IsPortProgram source values
-  pub headline : Headline (meaning values) (object code labels) cycles_of_run (cost_at annotated)
+  pub plain : Plain
+  pub program : IsPlainProgram source plain
+  pub headline : Headline (meaning plain.values) (object code labels) cycles_of_run (cost_at annotated)
   pub erases : erased annotated ≡ source
 
 -- The texts of an object to which the source is compiled: its code, the addresses of its labels, and the annotated source.
@@ -61,11 +64,14 @@ pub record PartlyBuilds (files : BuildFiles) (s t : FilesState) : Type 0 where
   pub texts : AreCompiled source hex map annotated
   pub written : ArePartlyWritten (outputs files hex map annotated) s t
 
--- the source is no program
-pub record Refuses (files : BuildFiles) (s t : FilesState) : Type 0 where
-  pub source : List ℕ
+-- the line names the first reason that the source has; or the source is a program that isn't compiled yet
+abbrev pub SaysRefused : List ℕ → List ℕ → Type 0
+SaysRefused source line =
+    ((reason : Reason) × HasReason source reason × (line ≡ refused reason)) ⊎ (IsOtherProgram source × (line ≡ unsupported))
+
+-- the source is refused with this line
+pub record Refuses (files : BuildFiles) (s t : FilesState) (source : List ℕ) : Type 0 where
   pub read : s.file files.source ≡ Some source
-  pub no_program : IsNoPortProgram source
   pub same : SameFiles s t
 
 -- one of the files that are written
@@ -82,7 +88,7 @@ Faults files s t =
 abbrev pub BuildMeans : BuildFiles → FilesState → FilesState → Status → List ℕ → Type 0
 BuildMeans files s t Done line = (line ≡ []) × (IsTrue s.known → Builds files s t)
 BuildMeans files s t NoFile line = (line ≡ no_file files.source) × (IsTrue s.known → (s.file files.source ≡ None) × SameFiles s t)
-BuildMeans files s t Refused line = (line ≡ unsupported) × (IsTrue s.known → Refuses files s t)
+BuildMeans files s t Refused line = (source : List ℕ) × SaysRefused source line × (IsTrue s.known → Refuses files s t source)
 BuildMeans files s t FileFault line = (line ≡ file_fault t.last_fault) × Rose s.faults t.faults × Faults files s t
 BuildMeans files s t NoMemory line = (line ≡ []) × (IsTrue s.known → SameFiles s t ⊎ PartlyBuilds files s t)
 BuildMeans files s t status line = ⊥

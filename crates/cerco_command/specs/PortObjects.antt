@@ -47,5 +47,5 @@ abbrev pub costs : List ℕ → Costs
 costs values = record { start = cost_of start; labels = cost_of (body values) ∷ [] }
 
 -- where the annotations stand: at the text's start, and behind the brace that opens `main`
-abbrev pub points : List Point
-points = record { at = 0; piece = Start } ∷ record { at = 16; piece = After (record { 0 = 0 }) } ∷ []
+abbrev pub points : ℕ → List Point
+points body = record { at = 0; piece = Start } ∷ record { at = body; piece = After (record { 0 = 0 }) } ∷ []

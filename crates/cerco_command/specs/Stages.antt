@@ -13,9 +13,8 @@ use Rattle.sim51.specs.Step.{Moved, Goes, step}
 use Rattle.sim51.specs.Places.{LoadedMachine}
 use Rattle.sim51.specs.Runs.{events_of}
 use Rattle.cerco_command.specs.Words.{BuildFiles}
-use Rattle.cerco_command.specs.PortPrograms.{IsNoPortProgram}
 use Rattle.cerco_command.specs.Answers.{NamedText, AreWritten, ArePartlyWritten}
-use Rattle.cerco_command.specs.Building.{AreCompiled, outputs}
+use Rattle.cerco_command.specs.Building.{AreCompiled, SaysRefused, outputs}
 use Rattle.cerco_command.specs.Messages.{unsupported, file_fault, event_lines, reserved_line}
 use Rattle.cerco_command.specs.Running.{Stops}
 use Rattle.cerco_command.specs.Disassembly.{listed_at}
@@ -61,7 +60,7 @@ pub record Makes (files : BuildFiles) (source : List ℕ) (s t : FilesState) (st
 
 -- what the status means once the source is read
 abbrev pub BuildsOn : BuildFiles → List ℕ → FilesState → FilesState → Status → List ℕ → Type 0
-BuildsOn files source s t Refused line = (line ≡ unsupported) × IsNoPortProgram source × (IsTrue s.known → SameFiles s t)
+BuildsOn files source s t Refused line = SaysRefused source line × (IsTrue s.known → SameFiles s t)
 BuildsOn files source s t NoMemory line = ((line ≡ []) × (IsTrue s.known → SameFiles s t)) ⊎ Makes files source s t NoMemory line
 BuildsOn files source s t status line = Makes files source s t status line
 

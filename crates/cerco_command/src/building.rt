@@ -1,9 +1,13 @@
 //! The command `build`.
-ghost use Rattle.std.specs.Prelude.{◌≡◌, ◌∷◌, [], IfOk, string_bytes};
+ghost use Rattle.std.specs.Prelude.{◌≡◌, ◌∷◌, [], IfOk, IfErr, string_bytes};
 ghost use Rattle.cerco_base.specs.Memory.{sound_sink_state};
 ghost use Rattle.clight_syntax.specs.Annotations.{Costs};
 ghost use Rattle.clight_syntax.specs.Annotations.{annotated as annotated_text};
-ghost use Rattle.cerco_command.specs.PortPrograms.{IsPortProgram};
+ghost use Rattle.clight_reader.specs.Reasons.{IsNotRead};
+ghost use Rattle.clight_syntax.specs.SourceTrees.{IsSourceTree};
+ghost use Rattle.clight_syntax.specs.Views.{program_of};
+ghost use Rattle.cerco_command.specs.PlainPrograms.{IsPlainProgram};
+ghost use Rattle.cerco_command.specs.PlainViews.{plain_of};
 ghost use Rattle.cerco_command.specs.PortObjects.{points};
 ghost use Rattle.cerco_command.specs.Words.{files_of, HaveDifferentNames};
 ghost use Rattle.cerco_command.specs.Building.{AreCompiled, outputs, BuildMeans};
@@ -11,21 +15,21 @@ ghost use Rattle.cerco_command.specs.Stages.{WritesAll, Finishes, BuildsOn};
 
 use crate::inputs::read_input;
 use crate::port_object::{PortObject, compile};
-use crate::port_program::read_port_program;
+use crate::plain_program::{PlainProgram, plain_program};
+use crate::refusal::refused;
 use crate::reply::{Reply, file_fault, silent, unsupported};
 use crate::status::Status;
 use crate::words::BuildNames;
 use annotate::annotate;
-use cerco_base::{Files, IoFault, Label, NoMemory, SoundSink, write_file};
-use clight_syntax::{Piece, Point, Points, PortWrites};
+use cerco_base::{Fault, Files, IoFault, Label, NoMemory, SoundSink, write_file};
+use clight_reader::parse;
+use clight_syntax::{Piece, Point, Points, Program};
+use clight_tokens::tokens;
 use object_hex::{write_hex, write_map};
 use std::alloc::Global;
 
 /// How many bytes of a source are read at most: one more than the longest source has.
 const READ_LIMIT: usize = 65536;
-
-/// Where the text of `main`'s body begins, in bytes, in a program of port writes.
-const BODY: u32 = 16;
 
 /// The texts of the outputs.
 #[derive(Drop)]
@@ -35,9 +39,9 @@ pub struct Texts {
     annotated: SoundSink,
 }
 
-// The annotations of a program of port writes.
-fn make_points(alloc: Global) -> Result<Points, NoMemory>
-    ensures { IfOk result (λ made. made ≡ points) }
+// The annotations of a program of port writes whose body begins at an offset.
+fn make_points(alloc: Global, body: u32) -> Result<Points, NoMemory>
+    ensures { IfOk result (λ made. made ≡ points body) }
 {
     let mut points = Points::new(alloc);
     points.push(Point {
@@ -45,19 +49,19 @@ fn make_points(alloc: Global) -> Result<Points, NoMemory>
         piece: Piece::Start,
     })?;
     points.push(Point {
-        at: BODY,
+        at: body,
         piece: Piece::After(Label(0)),
     })?;
     Ok(points)
 }
 
 // The outputs of a program of port writes.
-fn make_texts(alloc: Global, source: &[u8], writes: &PortWrites) -> Result<Texts, NoMemory>
-    requires { IsPortProgram source.now writes.now }
+fn make_texts(alloc: Global, source: &[u8], program: &PlainProgram) -> Result<Texts, NoMemory>
+    requires { IsPlainProgram source.now (plain_of program.now) }
     ensures { IfOk result (λ made. AreCompiled source.now
         (sound_sink_state made.hex).bytes (sound_sink_state made.map).bytes (sound_sink_state made.annotated).bytes) }
 {
-    let object = compile(alloc, writes)?;
+    let object = compile(alloc, &program.writes)?;
     let mut hex = SoundSink::new(alloc);
     if write_hex(object.code.as_slice(), &mut hex).is_err() {
         return Err(NoMemory);
@@ -67,7 +71,7 @@ fn make_texts(alloc: Global, source: &[u8], writes: &PortWrites) -> Result<Texts
         return Err(NoMemory);
     }
     let mut annotated = SoundSink::new(alloc);
-    let points = make_points(alloc)?;
+    let points = make_points(alloc, program.body)?;
     let costs = [object.main_cost];
     if annotate(source, &points, object.start_cost, &costs, &mut annotated).is_err() {
         return Err(NoMemory);
@@ -116,18 +120,45 @@ fn finish<F: Files>(alloc: Global, files: &mut F, names: &BuildNames, texts: &Te
     }
 }
 
+// The syntax tree of a source.
+fn read_tree(alloc: Global, source: &[u8]) -> Result<Program, Fault>
+    ensures tree { IfOk result (λ tree. IsSourceTree source.now (program_of tree)) }
+    ensures fault { IfErr result (IsNotRead source.now) }
+{
+    let list = tokens(alloc, source)?;
+    parse(alloc, &list)
+}
+
+// Builds a program that was read.
+fn build_tree<F: Files>(
+    alloc: Global,
+    names: &BuildNames,
+    source: &[u8],
+    tree: &Program,
+    files: &mut F,
+) -> Reply
+    requires { IsSourceTree source.now (program_of tree.now) }
+    ensures { BuildsOn (files_of names.now) source.now (F.state files.old) (F.state files.new) result.status (string_bytes result.line) }
+{
+    let program = match plain_program(alloc, tree) {
+        Ok(Some(program)) => program,
+        Ok(None) => return unsupported(alloc),
+        Err(_) => return silent(alloc, Status::NoMemory),
+    };
+    match make_texts(alloc, source, &program) {
+        Ok(texts) => finish(alloc, files, names, &texts),
+        Err(_) => silent(alloc, Status::NoMemory),
+    }
+}
+
 // Builds from a source that was read.
 fn build_on<F: Files>(alloc: Global, names: &BuildNames, source: &[u8], files: &mut F) -> Reply
     ensures { BuildsOn (files_of names.now) source.now (F.state files.old) (F.state files.new) result.status (string_bytes result.line) }
 {
-    let writes = match read_port_program(alloc, source) {
-        Ok(Some(writes)) => writes,
-        Ok(None) => return unsupported(alloc),
-        Err(_) => return silent(alloc, Status::NoMemory),
-    };
-    match make_texts(alloc, source, &writes) {
-        Ok(texts) => finish(alloc, files, names, &texts),
-        Err(_) => silent(alloc, Status::NoMemory),
+    match read_tree(alloc, source) {
+        Ok(tree) => build_tree(alloc, names, source, &tree, files),
+        Err(Fault::Refused(reason)) => refused(alloc, reason),
+        Err(Fault::OutOfMemory) => silent(alloc, Status::NoMemory),
     }
 }
 

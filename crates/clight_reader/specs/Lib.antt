@@ -1,4 +1,5 @@
 pub mod Faults
+pub mod Reasons
 pub mod Builds
 pub mod Nodes
 pub mod Forms
