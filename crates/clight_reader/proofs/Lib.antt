@@ -21,4 +21,5 @@ pub mod DeepNodes
 pub mod DeepItems
 pub mod LimitedPrograms
 pub mod OneFault
+pub mod OneNesting
 pub mod Examples
