@@ -6,9 +6,12 @@ use Rattle.std.proofs.lemmas.List.{length-take}
 use Rattle.cerco_base.specs.States.{FilesState, SameFiles}
 use Rattle.cerco_base.proofs.Putting.{rose_since}
 use Rattle.cerco_command.specs.Words.{BuildFiles, HaveDifferentNames}
-use Rattle.cerco_command.specs.PortPrograms.{IsPortProgram, IsNoPortProgram}
+use Rattle.cerco_base.specs.declared.reasons.Reason.{Reason}
+use Rattle.cerco_base.specs.declared.reasons.Reason.TheVariants as r
+use Rattle.clight_reader.specs.Reasons.{HasReason}
+use Rattle.cerco_command.specs.PlainPrograms.{IsOtherProgram}
 use Rattle.cerco_command.specs.Answers.{AreWritten, ArePartlyWritten}
-use Rattle.cerco_command.specs.Building.{AreCompiled, outputs, Builds, PartlyBuilds, IsOutput, BuildMeans}
+use Rattle.cerco_command.specs.Building.{AreCompiled, outputs, SaysRefused, Builds, PartlyBuilds, IsOutput, BuildMeans}
 use Rattle.cerco_command.specs.Inputs.{IsRead, CannotRead}
 use Rattle.cerco_command.specs.Messages.{no_file}
 use Rattle.cerco_command.specs.Stages.{IsNameOf, BuildsOn}
@@ -58,14 +61,46 @@ whole text all e short =
     let front = length-take 65536 all in
     e ∙ take_all 65536 all (omega arith)
 
-no_whole : (text all : List ℕ) → text ≡ take 65536 all → IsNoPortProgram text → IsNoPortProgram all
-no_whole text all e none values p =
-    let short = p.short in
-    none values (subst (λ (t : List ℕ). IsPortProgram t values) (sym (e ∙ take_all 65536 all (omega arith))) p)
+-- a text with the reason is short, but where it is too long
+short_or_long : (text : List ℕ) (reason : Reason) → HasReason text reason → (length text ≤ 65535) ⊎ ((reason ≡ r.TooLong) × (65535 < length text))
+short_or_long text r.TooLong (inl h) = inr (refl, h)
+short_or_long text (r.Byte at) (inl h) = inl h.0
+short_or_long text (r.Marker at) (inl h) = inl h.0.short
+short_or_long text (r.Token at) (inl h) = inl h.0.short
+short_or_long text (r.Syntax at) (inl h) = absurd h
+short_or_long text (r.Nesting at) (inl h) = absurd h
+short_or_long text (r.Name at kind) (inl h) = absurd h
+short_or_long text (r.Typing at kind) (inl h) = absurd h
+short_or_long text (r.Recursion at) (inl h) = absurd h
+short_or_long text (r.StackFull depth) (inl h) = absurd h
+short_or_long text (r.DataFull total) (inl h) = absurd h
+short_or_long text (r.CellsFull need) (inl h) = absurd h
+short_or_long text (r.CodeFull len) (inl h) = absurd h
+short_or_long text reason (inr h) = inl h.1.source.short
+
+-- the whole source has the reason of its front that was read
+whole_reason : (text all : List ℕ) (reason : Reason) → text ≡ take 65536 all → HasReason text reason → HasReason all reason
+whole_reason text all reason e h = by_length (short_or_long text reason h)
+  where
+    by_length : (length text ≤ 65535) ⊎ ((reason ≡ r.TooLong) × (65535 < length text)) → HasReason all reason
+    by_length (inl short) = subst (λ (t : List ℕ). HasReason t reason) (whole text all e short) h
+    by_length (inr long) =
+        let size : length text ≡ length (take 65536 all) = ap length e in
+        let front = length-take 65536 all in
+        let more = long.1 in
+        let too_long : 65535 < length all = omega arith in
+        subst (HasReason all) (sym long.0) (inl too_long)
+
+whole_other : (text all : List ℕ) → text ≡ take 65536 all → IsOtherProgram text → IsOtherProgram all
+whole_other text all e o = subst IsOtherProgram (whole text all e o.is_tree.tokens.source.short) o
+
+whole_refused : (text all line : List ℕ) → text ≡ take 65536 all → SaysRefused text line → SaysRefused all line
+whole_refused text all line e (inl h) = inl (h.0, whole_reason text all h.0 e h.1, h.2)
+whole_refused text all line e (inr h) = inr (whole_other text all e h.0, h.1)
 
 module _ (files : BuildFiles) (text : List ℕ) (s t u : FilesState) (later : s.faults ≤ t.faults) (read : IsTrue s.known → IsRead 65536 s files.source text) (same : IsTrue s.known → SameFiles s t) (known : IsTrue s.known → IsTrue t.known) where
   source_read : (hex map annotated : List ℕ) → AreCompiled text hex map annotated → (h : IsTrue s.known) → s.file files.source ≡ Some text
-  source_read hex map annotated c h = let r = read h in r.1 ∙ ap Some (sym (whole text r.0 r.2 c.compiled.program.short))
+  source_read hex map annotated c h = let r = read h in r.1 ∙ ap Some (sym (whole text r.0 r.2 c.compiled.program.is_tree.tokens.source.short))
 
   part : (hex map annotated : List ℕ) → AreCompiled text hex map annotated → (IsTrue t.known → ArePartlyWritten (outputs files hex map annotated) t u) → IsTrue s.known → PartlyBuilds files s u
   part hex map annotated a p h =
@@ -103,9 +138,13 @@ module _ (files : BuildFiles) (text : List ℕ) (s t u : FilesState) (later : s.
   is_output hex map annotated (inr (inr (inl e))) = inr (inr e)
   is_output hex map annotated (inr (inr (inr e))) = absurd e
 
+  refused : (line : List ℕ) → SaysRefused text line → (IsTrue t.known → SameFiles t u) → (k : Bool) → s.known ≡ k → BuildMeans files s u Refused line
+  refused line says rest true e = let r = read e in (r.0, whole_refused text r.0 line r.2 says, λ h. record { read = r.1; same = λ q. rest (known h) q ∙ same h q })
+  refused line says rest false e = (text, says, λ h. absurd (true≢false (sym h ∙ e)))
+
   pub built : HaveDifferentNames files → (status : Status) (line : List ℕ) → BuildsOn files text t u status line → BuildMeans files s u status line
   built d Done line b = (b.finishes.0, all (different files d) b.hex b.map b.annotated b.texts b.finishes.1)
-  built d Refused line b = (b.0, λ h. let r = read h in record { source = r.0; read = r.1; no_program = no_whole text r.0 r.2 b.1; same = λ q. b.2 (known h) q ∙ same h q })
+  built d Refused line b = refused line b.0 b.1 s.known refl
   built d FileFault line b =
       let why = b.finishes.0 in
       (why.0, rose_since s.faults t.faults u.faults later why.1, inr (is_output b.hex b.map b.annotated why.2, part b.hex b.map b.annotated b.texts b.finishes.1))

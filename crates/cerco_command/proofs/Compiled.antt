@@ -16,12 +16,13 @@ use Rattle.clight_syntax.specs.Annotations.{annotated, numbers_of}
 use Rattle.clight_syntax.specs.Erasure.{erased, HasNoMarker}
 use Rattle.clight_syntax.specs.Numbers.{numbers}
 use Rattle.clight_syntax.specs.declared.points.Point.{Point}
-use Rattle.cerco_command.specs.PortPrograms.{IsPortProgram}
+use Rattle.cerco_command.specs.PlainPrograms.{Plain, IsPlainProgram}
+use Rattle.cerco_command.proofs.PlainTrees.{few, are_bytes}
 use Rattle.cerco_command.specs.PortObjects.{write, code, labels, costs, points}
 use Rattle.cerco_command.specs.Building.{IsCompiled, AreCompiled}
 use Rattle.object_hex.specs.HexText.{hex_text}
 use Rattle.object_hex.specs.MapText.{map_text}
-use Rattle.cerco_command.proofs.PortBounds.{stands, has_no_marker, code_fits}
+use Rattle.cerco_command.proofs.PortBounds.{stands, code_fits}
 use Rattle.cerco_command.proofs.PortCosts.{cost_of_body}
 use Rattle.cerco_command.proofs.Promise.{headline_holds}
 
@@ -67,28 +68,29 @@ labels_mean = map_text-means labels (lit≤ tt) small (λ i j before within. abs
     small : All (λ address. address < 65536) labels
     small = grind arith
 
-pub compiled : (source values text : List ℕ) → IsPortProgram source values → erased text ≡ source → numbers text ≡ flat_map (λ (point : Point). numbers_of (costs values) point.piece) points → IsCompiled source (code values) labels text
-compiled source values text p erases said =
+pub compiled : (source text : List ℕ) (plain : Plain) → IsPlainProgram source plain → erased text ≡ source → numbers text ≡ flat_map (λ (point : Point). numbers_of (costs plain.values) point.piece) (points plain.body) → IsCompiled source (code plain.values) labels text
+compiled source text plain p erases said =
     record {
-      values = values;
+      plain = plain;
       program = p;
-      headline = headline_holds (code values) values (stands source values p) text (said ∙ ap (λ c. 4 ∷ c ∷ []) (cost_of_body values));
+      headline = headline_holds (code plain.values) plain.values (stands plain.values (few source plain p)) text (said ∙ ap (λ c. 4 ∷ c ∷ []) (cost_of_body plain.values));
       erases = erases;
     }
 
 -- the texts that are made of a program are those of what it is compiled to
-pub texts_made : (source values hex map text object addresses labelled : List ℕ) (pts : List Point) (start : ℕ) → IsPortProgram source values → object ≡ code values → addresses ≡ labels → start ≡ (costs values).start → labelled ≡ (costs values).labels → pts ≡ points → hex ≡ hex_text object → map ≡ map_text addresses → text ≡ annotated source pts (record { start = start; labels = labelled }) → (HasNoMarker source → erased (annotated source pts (record { start = start; labels = labelled })) ≡ source) → (HasNoMarker source → numbers (annotated source pts (record { start = start; labels = labelled })) ≡ flat_map (λ (point : Point). numbers_of (record { start = start; labels = labelled }) point.piece) pts) → AreCompiled source hex map text
-texts_made source values hex map text object addresses labelled pts start p object_is addresses_are start_is labelled_are points_are hex_is map_is text_is erases counts =
-    let none = has_no_marker source values p in
-    let said : numbers text ≡ flat_map (λ (point : Point). numbers_of (costs values) point.piece) points =
+pub texts_made : (source : List ℕ) (plain : Plain) (hex map text object addresses labelled : List ℕ) (pts : List Point) (start : ℕ) → IsPlainProgram source plain → object ≡ code plain.values → addresses ≡ labels → start ≡ (costs plain.values).start → labelled ≡ (costs plain.values).labels → pts ≡ points plain.body → hex ≡ hex_text object → map ≡ map_text addresses → text ≡ annotated source pts (record { start = start; labels = labelled }) → (HasNoMarker source → erased (annotated source pts (record { start = start; labels = labelled })) ≡ source) → (HasNoMarker source → numbers (annotated source pts (record { start = start; labels = labelled })) ≡ flat_map (λ (point : Point). numbers_of (record { start = start; labels = labelled }) point.piece) pts) → AreCompiled source hex map text
+texts_made source plain hex map text object addresses labelled pts start p object_is addresses_are start_is labelled_are points_are hex_is map_is text_is erases counts =
+    let none = p.is_tree.tokens.unmarked in
+    let values = plain.values in
+    let said : numbers text ≡ flat_map (λ (point : Point). numbers_of (costs values) point.piece) (points plain.body) =
     ap numbers text_is ∙ (counts none
     ∙ (ap (λ (ps : List Point). flat_map (λ (point : Point). numbers_of (record { start = start; labels = labelled }) point.piece) ps) points_are
-    ∙ (ap (λ (s : ℕ). flat_map (λ (point : Point). numbers_of (record { start = s; labels = labelled }) point.piece) points) start_is
-    ∙ ap (λ (ls : List ℕ). flat_map (λ (point : Point). numbers_of (record { start = (costs values).start; labels = ls }) point.piece) points) labelled_are))) in
+    ∙ (ap (λ (s : ℕ). flat_map (λ (point : Point). numbers_of (record { start = s; labels = labelled }) point.piece) (points plain.body)) start_is
+    ∙ ap (λ (ls : List ℕ). flat_map (λ (point : Point). numbers_of (record { start = (costs values).start; labels = ls }) point.piece) (points plain.body)) labelled_are))) in
     record {
       code = code values;
       labels = labels;
-      is_code = subst (λ (x : List ℕ). IsHexText x (code values)) (sym (hex_is ∙ ap hex_text object_is)) (hex_text-means (code values) (code_fits source values p) (code_bytes values p.bytes));
+      is_code = subst (λ (x : List ℕ). IsHexText x (code values)) (sym (hex_is ∙ ap hex_text object_is)) (hex_text-means (code values) (code_fits values (few source plain p)) (code_bytes values (are_bytes source plain p)));
       are_labels = subst (λ (x : List ℕ). IsMapText x labels) (sym (map_is ∙ ap map_text addresses_are)) labels_mean;
-      compiled = compiled source values text p (ap erased text_is ∙ erases none) said;
+      compiled = compiled source text plain p (ap erased text_is ∙ erases none) said;
     }

@@ -1,5 +1,5 @@
 mod WordLists
-mod PortTexts
+mod PlainTrees
 mod PortCosts
 mod PortCode
 mod PortBounds

@@ -21,7 +21,7 @@ use Rattle.sim51.specs.Step.{Goes, instr_at, label_at}
 use Rattle.sim51.specs.Runs.{Running, object, cycles_of_run, advanced, passes_label, has_halted}
 use Rattle.sim51.specs.Placed.{Stands}
 use Rattle.sim51.proofs.Steps.{step_goes, step_halts}
-use Rattle.cerco_command.specs.PortPrograms.{meaning, writes}
+use Rattle.cerco_command.specs.PlainPrograms.{meaning, writes}
 use Rattle.cerco_command.specs.PortObjects.{instructions, write, labels}
 
 no_label : (a : ℕ) → 9 ≤ a → label_at labels a ≡ None

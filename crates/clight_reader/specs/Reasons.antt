@@ -1,6 +1,6 @@
 -- Why a text has no syntax tree: the first of its reasons, with its place. (The reasons and their order are the compiler's own:
 -- `docs/language.md`.)
-use Rattle.std.specs.Prelude.{◌≡◌, ◌×◌, ℕ, List, length, map, slice_index_or, ◌⊎◌}
+use Rattle.std.specs.Prelude.{◌≡◌, ℕ, List, length, map, slice_index_or, ◌⊎◌}
 use Rattle.cerco_base.specs.declared.reasons.Fault.{Fault}
 use Rattle.cerco_base.specs.declared.reasons.Fault.TheVariants.{Refused, OutOfMemory}
 use Rattle.cerco_base.specs.declared.reasons.Reason.{Reason}

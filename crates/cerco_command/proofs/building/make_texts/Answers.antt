@@ -1,19 +1,21 @@
 use Rattle.std.proofs.Common.{arith, [], ◌∷◌, refl, sym, ◌∙◌}
 use Rattle.cerco_base.specs.Memory.{sound_sink_state}
-use Rattle.cerco_command.proofs.PortBounds.{few, code_fits}
+use Rattle.cerco_command.proofs.PortBounds.{code_fits}
+use Rattle.cerco_command.proofs.PlainTrees.{few, body_within}
+use Rattle.cerco_command.specs.PlainViews.{plain_of}
 use Rattle.cerco_command.proofs.Compiled.{collected, texts_made}
 use Rattle.cerco_command.proofs.building.make_texts.Goals as goal
 
 pub compile-requires : goal.compile-requires
-compile-requires c = let f = few c.args.source.now c.args.writes.now c.requires in omega arith
+compile-requires c = let f = few c.args.source.now (plain_of c.args.program.now) c.requires in omega arith
 
 pub write_hex-requires : goal.write_hex-requires
-write_hex-requires c = rw (c.as_slice.ensures, c.in_ok-object.ensures.code) (code_fits c.args.source.now c.args.writes.now c.requires)
+write_hex-requires c = rw (c.as_slice.ensures, c.in_ok-object.ensures.code) (code_fits c.args.program.now.writes (few c.args.source.now (plain_of c.args.program.now) c.requires))
 
 pub returns : goal.returns
 returns c =
     let o = c.in_ok-object in
-    texts_made c.args.source.now c.args.writes.now c.write_hex.new.out.bytes.items c.write_map.new.out.bytes.items c.annotate.new.out.bytes.items
+    texts_made c.args.source.now (plain_of c.args.program.now) c.write_hex.new.out.bytes.items c.write_map.new.out.bytes.items c.annotate.new.out.bytes.items
     c.as_slice.result.now c.as_slice-2.result.now (o.object.main_cost ∷ []) c.in_ok-points.points o.object.start_cost
     c.requires (c.as_slice.ensures ∙ o.ensures.code) (c.as_slice-2.ensures ∙ o.ensures.labels) o.ensures.start_cost o.ensures.main_cost c.in_ok-points.ensures
     (collected (sound_sink_state c.new-hex.result) (sound_sink_state c.write_hex.new.out) _ c.write_hex.result refl c.new-hex.ensures (sym c.is_err.ensures.value ∙ c.if-is_err.false) c.write_hex.ensures)
