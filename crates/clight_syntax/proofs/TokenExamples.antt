@@ -1,15 +1,13 @@
 -- The definitions of tokens and symbols at small texts.
-use Rattle.std.proofs.Common.{◌≡◌, ◌+◌, ℕ, Bool, true, false, List, [], ◌∷◌, map, length, refl}
-use Rattle.std.specs.Prelude.{codes, Option, Some, None}
+use Rattle.std.proofs.Common.{◌≡◌, ◌+◌, ℕ, true, false, List, [], ◌∷◌, map, length, refl}
+use Rattle.std.specs.Prelude.{codes, Some, None}
 use Rattle.std.specs.List.{list_all}
-use Rattle.clight_syntax.specs.declared.span.Span.{Span}
-use Rattle.clight_syntax.specs.declared.symbol.Literal.{Literal}
 use Rattle.clight_syntax.specs.declared.symbol.Radix.TheVariants.{Decimal, Octal, Hexadecimal}
 use Rattle.clight_syntax.specs.declared.symbol.Symbol.{Symbol}
 use Rattle.clight_syntax.specs.declared.symbol.Symbol.TheVariants as s
-use Rattle.clight_syntax.specs.Lexemes.{is_lexeme, is_punctuator, LineComment, BlockComment, OpenComment, Word, Number}
+use Rattle.clight_syntax.specs.Lexemes.{is_lexeme, is_punctuator, LineComment, BlockComment, OpenComment, Word}
 use Rattle.clight_syntax.specs.Constants.{constant_of}
-use Rattle.clight_syntax.specs.Tokens.{Token, flaw, first_pair, is_splice}
+use Rattle.clight_syntax.specs.Tokens.{Token, flaw}
 use Rattle.clight_syntax.specs.Symbols.{keywords, marks, names_of, symbol_of}
 
 -- ---- constants
