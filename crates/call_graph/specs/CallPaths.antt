@@ -1,9 +1,13 @@
 -- The calls of a program and its call paths, as in a call graph (Ryder, 1979). Functions are numbers from 0 up to how many there
 -- are, and a relation says which function calls which. Two such relations stand here: that of the lists of callees of a program,
 -- and that of an order of calls.
-use Rattle.std.specs.Prelude.{◌≡◌, ℕ, ◌≤◌, ◌<◌, ◌↔◌, List, [], ◌∷◌, ◌++◌, ◌⊎◌, length, Contains, slice_index, slice_index_or}
+use Rattle.std.specs.Prelude.{◌≡◌, ℕ, ◌≤◌, ◌<◌, ◌↔◌, List, [], ◌∷◌, ◌++◌, ◌⊎◌, length, Contains, slice_index, slice_index_or, slice_set}
 use Rattle.std.specs.List.{sum_by}
 use Rattle.cerco_base.specs.CallOrder.{Called, functions_of, callers_at, IsCallOrder}
+
+-- the lists with one more number at the end of the list at place i
+abbrev pub list_added : List (List ℕ) → ℕ → ℕ → List (List ℕ)
+list_added lists i n = slice_set lists i (slice_index_or lists i [] ++ n ∷ [])
 
 -- f calls g, where the list at place f has the functions that f calls
 abbrev pub Calls : List (List ℕ) → ℕ → ℕ → Type 0

@@ -23,6 +23,7 @@ abbrev pub IsOpenPath : List (List ℕ) → List Mark → List ℕ → Type 0
 IsOpenPath callers marks [] = Unit {0}
 IsOpenPath callers marks (f ∷ below) = (mark_of marks f ≡ Open) × CallsFirst callers f below × (Contains below f → ⊥) × IsOpenPath callers marks below
 
+-- the stack is listed from its top down
 pub record IsWalk (callers : List (List ℕ)) (marks : List Mark) (known stack : List ℕ) (order : List Called) : Type 0 where
   pub marks_length : length marks ≡ length callers
   pub known_length : length known ≡ length callers
@@ -33,10 +34,10 @@ pub record IsWalk (callers : List (List ℕ)) (marks : List Mark) (known stack :
   pub known_within : (f : ℕ) → slice_index known f ≤ length (list_at callers f)
   pub known_placed : (f j : ℕ) → j < slice_index known f → mark_of marks (slice_index (list_at callers f) j) ≡ Placed
   pub on_stack : (f : ℕ) → mark_of marks f ≡ Open → Contains stack f
-  pub path : IsOpenPath callers marks (reverse stack)
+  pub path : IsOpenPath callers marks stack
 
 abbrev pub IsWalkOf : List (List ℕ) → Walk → Type 0
-IsWalkOf callers w = IsWalk callers w.marks.items w.known.items w.stack.items w.order
+IsWalkOf callers w = IsWalk callers w.marks.items w.known.items (reverse w.stack.items) w.order
 
 -- the walk at its start
 pub record IsStart (functions : ℕ) (w : Walk) : Type 0 where
@@ -80,3 +81,9 @@ pub record IsOrderByCallers (callers : List (List ℕ)) (order : List Called) : 
   pub functions : (f : ℕ) → Contains (functions_of order) f ↔ (f < length callers)
   pub lists : (i : ℕ) → i < length order → callers_at order i ≡ list_at callers (slice_index (functions_of order) i)
   pub in_order : IsCallOrder order
+
+-- on the way from one walk to another, on which f is no longer new
+pub record IsUnderWay (callers : List (List ℕ)) (f : ℕ) (old new : Walk) : Type 0 where
+  pub walk : IsWalkOf callers new
+  pub met : (g : ℕ) → mark_of new.marks.items g ≡ New → mark_of old.marks.items g ≡ New
+  pub begun : mark_of new.marks.items f ≡ New → ⊥

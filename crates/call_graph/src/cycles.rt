@@ -4,7 +4,8 @@ ghost use Rattle.call_graph.specs.CallPaths.{Calls, IsOnCycle, IsFirstOnCycle};
 ghost use Rattle.call_graph.specs.Nodes.{callees_of, AreNodes};
 ghost use Rattle.call_graph.specs.Searches.{Sees};
 
-use crate::graph::{Node, OrderFault};
+use crate::faults::OrderFault;
+use crate::nodes::Node;
 use std::alloc::Global;
 
 // The functions that a search has seen, and those of them whose callees it has yet to look at.

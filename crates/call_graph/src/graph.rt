@@ -1,64 +1,14 @@
 //! The functions of a program and the calls between them.
-ghost use Rattle.std.specs.Prelude.{◌≡◌, ℕ, ◌<◌, ◌++◌, ◌∷◌, [], length, replicate, slice_set, slice_index_or, IfOk, OnOk, OnErr, Err};
-ghost use Rattle.call_graph.specs.CallPaths.{Calls, IsOnCycle, IsFirstOnCycle, IsOrderOf};
+ghost use Rattle.std.specs.Prelude.{◌≡◌, ℕ, ◌<◌, [], length, replicate, IfOk, OnOk, OnErr, Err};
+ghost use Rattle.call_graph.specs.CallPaths.{list_added, Calls, IsOnCycle, IsFirstOnCycle, IsOrderOf};
 
 use crate::cycles::first_on_cycle;
+use crate::faults::OrderFault;
+use crate::nodes::{Node, add_callee, add_caller, forget_callee};
 use crate::walk::callers_first;
 use cerco_base::{CallOrder, NoMemory};
-use std::alloc::{AllocError, AllocFailed, Global};
+use std::alloc::Global;
 use std::marker::Model;
-use thiserror::Error;
-
-/// Why a program has no order of calls.
-#[derive(Clone, Copy, Debug, PartialEq, Eq, Error)]
-pub enum OrderFault {
-    /// This function is on a cycle of calls.
-    #[error("function {0} is on a cycle of calls")]
-    Cycle(u32),
-    /// There was no memory for the order.
-    #[error("out of memory")]
-    OutOfMemory,
-}
-
-impl From<AllocError> for OrderFault {
-    ghost use Rattle.std.specs.Prelude.{◌≡◌};
-    ghost use Rattle.call_graph.specs.declared.graph.OrderFault.TheVariants as Fault;
-
-    ghost from_gives = { λ _ fault. fault ≡ Fault.OutOfMemory };
-
-    fn from(_: AllocError) -> Self {
-        OrderFault::OutOfMemory
-    }
-}
-
-impl<T: Drop> From<AllocFailed<T>> for OrderFault {
-    ghost use Rattle.std.specs.Prelude.{◌≡◌};
-    ghost use Rattle.call_graph.specs.declared.graph.OrderFault.TheVariants as Fault;
-
-    ghost from_gives = { λ _ fault. fault ≡ Fault.OutOfMemory };
-
-    fn from(_: AllocFailed<T>) -> Self {
-        OrderFault::OutOfMemory
-    }
-}
-
-impl From<NoMemory> for OrderFault {
-    ghost use Rattle.std.specs.Prelude.{◌≡◌};
-    ghost use Rattle.call_graph.specs.declared.graph.OrderFault.TheVariants as Fault;
-
-    ghost from_gives = { λ _ fault. fault ≡ Fault.OutOfMemory };
-
-    fn from(_: NoMemory) -> Self {
-        OrderFault::OutOfMemory
-    }
-}
-
-// A function's neighbours: one entry for each call.
-#[derive(Drop)]
-pub(crate) struct Node {
-    pub(crate) callees: Vec<u32>,
-    pub(crate) callers: Vec<u32>,
-}
 
 /// The functions of a program, numbered from 0, and the calls between them. Contracts see it as
 /// the list that has, at the place of each function, the functions that it calls: one entry for
@@ -108,12 +58,12 @@ impl CallGraph {
     pub fn add_call(&mut self, caller: u32, callee: u32) -> Result<(), NoMemory>
         requires caller { caller < length self.old }
         requires callee { callee < length self.old }
-        ensures added { OnOk result (self.new ≡ slice_set self.old caller (slice_index_or self.old caller [] ++ callee ∷ [])) }
+        ensures added { OnOk result (self.new ≡ list_added self.old caller callee) }
         ensures same { OnErr result (self.new ≡ self.old) }
     {
-        self.nodes[caller as usize].callees.push(callee)?;
-        if self.nodes[callee as usize].callers.push(caller).is_err() {
-            let _ = self.nodes[caller as usize].callees.pop();
+        add_callee(&mut self.nodes, caller, callee)?;
+        if add_caller(&mut self.nodes, callee, caller).is_err() {
+            forget_callee(&mut self.nodes, caller);
             return Err(NoMemory);
         }
         Ok(())

@@ -2,11 +2,14 @@
 #![tactic(auto)]
 
 mod cycles;
+pub mod faults;
 pub mod graph;
+mod nodes;
 pub mod sums;
 #[cfg(test)]
 mod tests;
 mod walk;
 
-pub use graph::{CallGraph, OrderFault};
+pub use faults::OrderFault;
+pub use graph::CallGraph;
 pub use sums::{Sums, largest_sums};

@@ -5,7 +5,8 @@ ghost use Rattle.call_graph.specs.CallPaths.{IsOnCycle};
 ghost use Rattle.call_graph.specs.Nodes.{callers_of, CallsTo, AreNodes};
 ghost use Rattle.call_graph.specs.Walks.{mark_of, IsWalkOf, IsStart, Opens, Places, Steps, IsOrderByCallers};
 
-use crate::graph::{Node, OrderFault};
+use crate::faults::OrderFault;
+use crate::nodes::Node;
 use cerco_base::CallOrder;
 use std::alloc::Global;
 
@@ -99,10 +100,10 @@ impl Walk {
             return self.place(top, callers);
         }
         let caller = callers[at];
-        if self.marks[caller as usize] == Mark::Open {
-            return Err(OrderFault::Cycle(caller));
+        match self.marks[caller as usize] {
+            Mark::New => self.open(caller),
+            _ => Err(OrderFault::Cycle(caller)),
         }
-        self.open(caller)
     }
 
     // Puts a function and those behind it into the order, callers first.

@@ -1,0 +1,5 @@
+pub mod Entries
+pub mod Paths
+pub mod OrderPaths
+pub mod WalkSteps
+pub mod Turns
