@@ -3,3 +3,5 @@ pub mod Paths
 pub mod OrderPaths
 pub mod WalkSteps
 pub mod Turns
+pub mod SearchSteps
+pub mod Added

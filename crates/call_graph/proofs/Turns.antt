@@ -7,7 +7,7 @@ use Rattle.std.proofs.lemmas.Bool.{cases_lt}
 use Rattle.cerco_base.specs.CallOrder.{Called, functions_of}
 use Rattle.call_graph.specs.CallPaths.{IsOnCycle}
 use Rattle.call_graph.specs.Nodes.{callees_of, callers_of, CallsTo, AreNodes}
-use Rattle.call_graph.specs.Walks.{list_at, mark_of, IsOpenPath, IsWalk, IsWalkOf, Opens, Places, Steps, steps_of, steps_left}
+use Rattle.call_graph.specs.Walks.{list_at, mark_of, IsOpenPath, IsWalk, IsWalkOf, Opens, Places, Steps, steps_of, IsUnderWay, IsOrderByCallers}
 use Rattle.call_graph.specs.declared.nodes.Node.{Node}
 use Rattle.call_graph.specs.declared.walk.Walk.{Walk}
 use Rattle.call_graph.specs.declared.walk.Mark.{Mark}
@@ -160,3 +160,32 @@ turn_cycles nodes w top n list below at within is =
     let call : CallsTo (callers_of nodes) (get_or list n 0) top = subst (λ (xs : List ℕ). Contains xs (get_or list n 0)) at.callers (contains_at list n (get_or list n 0) within refl) in
     let down = leads_down (callers_of nodes) w.marks.items (get_or list n 0) top (reverse below) (get_or list n 0) call at.walk.path (at.walk.on_stack (get_or list n 0) is) in
     (down.0, (caller_within nodes at.graph (get_or list n 0) top call, down.1))
+
+-- the first function comes on the stack
+pub first_opens : (callers : List (List ℕ)) (w mid new : Walk) (f : ℕ) → IsWalkOf callers w → w.stack.items ≡ [] → f < length callers → mark_of w.marks.items f ≡ New → mid.marks.items ≡ w.marks.items → mid.known.items ≡ w.known.items → mid.stack.items ≡ w.stack.items → mid.order ≡ w.order → Opens f mid new → IsUnderWay callers f w new
+first_opens callers w mid new f walk none within is_new m k s o opens =
+    let e = walk.marks_length in
+    let h : f < length w.marks.items = omega arith in
+    let marks_is : new.marks.items ≡ set w.marks.items f Open = opens.marks ∙ ap (λ (ms : List Mark). set ms f Open) m in
+    let stack_is : new.stack.items ≡ [] ++ f ∷ [] = opens.stack ∙ ap (λ (xs : List ℕ). xs ++ f ∷ []) (s ∙ none) in
+    let at = subst (λ (xs : List ℕ). IsWalk callers w.marks.items w.known.items xs w.order) (ap reverse none) walk in
+    let open_f : mark_of (set w.marks.items f Open) f ≡ Open = get_or-set_same w.marks.items f Open New h in
+    record {
+      walk = walk_from callers new (set w.marks.items f Open) w.known.items (f ∷ []) w.order marks_is (opens.known ∙ k) (ap reverse stack_is) (opens.order ∙ o)
+          (opened callers w.marks.items w.known.items [] w.order f at is_new h tt);
+      met = λ g x. still_new w.marks.items f g Open h (λ y. cc) (sym (ap (λ (ms : List Mark). mark_of ms g) marks_is) ∙ x);
+      begun = λ x. let y : mark_of new.marks.items f ≡ Open = ap (λ (ms : List Mark). mark_of ms f) marks_is ∙ open_f in cc;
+    }
+
+-- where the stack is empty, each function is new or in the order
+pub placed_at_rest : (callers : List (List ℕ)) (w : Walk) (f : ℕ) → IsWalkOf callers w → w.stack.items ≡ [] → (mark_of w.marks.items f ≡ New → ⊥) → mark_of w.marks.items f ≡ Placed
+placed_at_rest callers w f walk none met = is_placed (mark_of w.marks.items f) met (λ e. contains_none f (subst (λ (xs : List ℕ). Contains xs f) (ap reverse none) (walk.on_stack f e)))
+
+-- the order of a walk that has placed each function
+pub order_at_rest : (callers : List (List ℕ)) (w : Walk) → IsWalkOf callers w → ((f : ℕ) → f < length callers → mark_of w.marks.items f ≡ Placed) → IsOrderByCallers callers w.order
+order_at_rest callers w walk all =
+    record {
+      functions = λ f. (λ c. let p = walk.marked f c in let h = marked_within w.marks.items f (λ e. cc) in let e = walk.marks_length in omega arith, λ h. walk.placed f (all f h));
+      lists = walk.lists;
+      in_order = walk.in_order;
+    }

@@ -118,9 +118,9 @@ impl Walk {
         ensures still { OnOk result ((f : ℕ) → mark_of self.old.marks.items f ≡ Mark.Placed → mark_of self.new.marks.items f ≡ Mark.Placed) }
         ensures cycle { (f : ℕ) → result ≡ Err (OrderFault.Cycle f) → IsOnCycle (length nodes.now) (CallsTo (callers_of nodes.now)) f }
     {
-        if self.marks[function as usize] == Mark::Placed {
+        let Mark::New = self.marks[function as usize] else {
             return Ok(());
-        }
+        };
         self.open(function)?;
         while let Some(&top) = self.stack.last() {
             self.step(nodes, top)?;
