@@ -5,3 +5,4 @@ pub mod WalkSteps
 pub mod Turns
 pub mod SearchSteps
 pub mod Added
+pub mod Opposite

@@ -4,7 +4,7 @@ ghost use Rattle.call_graph.specs.CallPaths.{list_added, Calls, IsOnCycle, IsFir
 
 use crate::cycles::first_on_cycle;
 use crate::faults::OrderFault;
-use crate::nodes::{Node, add_callee, add_caller, forget_callee};
+use crate::nodes::{Node, connect};
 use crate::walk::callers_first;
 use cerco_base::{CallOrder, NoMemory};
 use std::alloc::Global;
@@ -61,12 +61,7 @@ impl CallGraph {
         ensures added { OnOk result (self.new ≡ list_added self.old caller callee) }
         ensures same { OnErr result (self.new ≡ self.old) }
     {
-        add_callee(&mut self.nodes, caller, callee)?;
-        if add_caller(&mut self.nodes, callee, caller).is_err() {
-            forget_callee(&mut self.nodes, caller);
-            return Err(NoMemory);
-        }
-        Ok(())
+        connect(&mut self.nodes, caller, callee)
     }
 
     /// The functions in the order of their calls, each with those that call it, or the first

@@ -13,7 +13,7 @@ pub(crate) struct Node {
 }
 
 // One more callee of a function.
-pub(crate) fn add_callee(nodes: &mut [Node], function: u32, callee: u32) -> Result<(), NoMemory>
+fn add_callee(nodes: &mut [Node], function: u32, callee: u32) -> Result<(), NoMemory>
     requires { function < length nodes.old }
     ensures added { OnOk result (callees_of nodes.new ≡ list_added (callees_of nodes.old) function callee) }
     ensures same { OnErr result (callees_of nodes.new ≡ callees_of nodes.old) }
@@ -24,7 +24,7 @@ pub(crate) fn add_callee(nodes: &mut [Node], function: u32, callee: u32) -> Resu
 }
 
 // One more caller of a function.
-pub(crate) fn add_caller(nodes: &mut [Node], function: u32, caller: u32) -> Result<(), NoMemory>
+fn add_caller(nodes: &mut [Node], function: u32, caller: u32) -> Result<(), NoMemory>
     requires { function < length nodes.old }
     ensures added { OnOk result (callers_of nodes.new ≡ list_added (callers_of nodes.old) function caller) }
     ensures same { OnErr result (callers_of nodes.new ≡ callers_of nodes.old) }
@@ -35,10 +35,27 @@ pub(crate) fn add_caller(nodes: &mut [Node], function: u32, caller: u32) -> Resu
 }
 
 // The last callee of a function goes.
-pub(crate) fn forget_callee(nodes: &mut [Node], function: u32)
+fn forget_callee(nodes: &mut [Node], function: u32)
     requires { function < length nodes.old }
     ensures callees { (lists : List (List ℕ)) (callee : ℕ) → function < length lists → callees_of nodes.old ≡ list_added lists function callee → callees_of nodes.new ≡ lists }
     ensures callers { callers_of nodes.new ≡ callers_of nodes.old }
 {
     let _ = nodes[function as usize].callees.pop();
+}
+
+// One more call. After want of memory the calls are as they were.
+pub(crate) fn connect(nodes: &mut [Node], caller: u32, callee: u32) -> Result<(), NoMemory>
+    requires caller { caller < length nodes.old }
+    requires callee { callee < length nodes.old }
+    ensures callees { OnOk result (callees_of nodes.new ≡ list_added (callees_of nodes.old) caller callee) }
+    ensures callers { OnOk result (callers_of nodes.new ≡ list_added (callers_of nodes.old) callee caller) }
+    ensures same_callees { OnErr result (callees_of nodes.new ≡ callees_of nodes.old) }
+    ensures same_callers { OnErr result (callers_of nodes.new ≡ callers_of nodes.old) }
+{
+    add_callee(nodes, caller, callee)?;
+    if add_caller(nodes, callee, caller).is_err() {
+        forget_callee(nodes, caller);
+        return Err(NoMemory);
+    }
+    Ok(())
 }
