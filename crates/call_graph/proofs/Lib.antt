@@ -6,3 +6,4 @@ pub mod Turns
 pub mod SearchSteps
 pub mod Added
 pub mod Opposite
+pub mod SumSteps

@@ -34,7 +34,7 @@ stands order f c =
 pub contains_standing : (order : List Called) (f i : ℕ) → StandsAt order f i → Contains (functions_of order) f
 contains_standing order f i s = let e = length-functions order in let w = s.within in contains_at (functions_of order) i f (omega arith) s.is
 
-not_twice : (order : List Called) → IsCallOrder order → (f i j : ℕ) → StandsAt order f i → StandsAt order f j → i < j → ⊥
+pub not_twice : (order : List Called) → IsCallOrder order → (f i j : ℕ) → StandsAt order f i → StandsAt order f j → i < j → ⊥
 not_twice order o f i j s t h =
     let e = length-functions order in
     let w = t.within in
@@ -79,7 +79,7 @@ pub called_stands : (order : List Called) (f g : ℕ) → CallsIn order f g → 
 called_stands order f g call = (call.0, record { within = call.1; is = call.2 })
 
 -- the last function of a path stands somewhere
-last_stands : (order : List Called) (f : ℕ) (path : List ℕ) (g : ℕ) → AreCalledFrom (CallsIn order) f (path ++ g ∷ []) → (i : ℕ) × StandsAt order g i
+pub last_stands : (order : List Called) (f : ℕ) (path : List ℕ) (g : ℕ) → AreCalledFrom (CallsIn order) f (path ++ g ∷ []) → (i : ℕ) × StandsAt order g i
 last_stands order f [] g way = called_stands order f g way.0
 last_stands order f (h ∷ path) g way = last_stands order h path g way.1
 
