@@ -7,3 +7,4 @@ pub mod SearchSteps
 pub mod Added
 pub mod Opposite
 pub mod SumSteps
+pub mod Consequences

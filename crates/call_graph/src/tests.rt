@@ -1,9 +1,10 @@
-use crate::{CallGraph, OrderFault, largest_sums};
+use crate::{CallGraph, OrderFault, Sums, largest_sums};
+use cerco_base::NoMemory;
 use std::alloc::Global;
 use std::test::Fail;
 
 // A program of so many functions with these calls.
-fn program(alloc: Global, functions: u32, calls: &[(u32, u32)]) -> Result<CallGraph, Fail> {
+fn program(alloc: Global, functions: u32, calls: &[(u32, u32)]) -> Result<CallGraph, NoMemory> {
     let mut graph = CallGraph::new(alloc, functions)?;
     let count = graph.functions();
     for &(caller, callee) in calls {
@@ -14,14 +15,27 @@ fn program(alloc: Global, functions: u32, calls: &[(u32, u32)]) -> Result<CallGr
     Ok(graph)
 }
 
+// The largest sums of a program of few functions with small sizes.
+fn sums_of(alloc: Global, graph: &CallGraph, sizes: &[u32]) -> Result<Option<Sums>, OrderFault> {
+    let order = graph.order(alloc)?;
+    let few = sizes.len() < 1000 && sizes.len() == graph.functions() as usize;
+    if few && sizes.iter().all(|&size| size <= 1000) {
+        return Ok(Some(largest_sums(alloc, &order, sizes)?));
+    }
+    Ok(None)
+}
+
 #[test]
 fn callers_stand_first(rt: HostRuntime) -> Result<(), Fail> {
     let alloc = rt.alloc();
-    // A diamond, of which 3 is the top, beside a function of its own.
-    let graph = program(alloc, 5, &[(3, 0), (3, 2), (0, 1), (2, 1), (2, 1)])?;
-    let order = graph.order(alloc)?;
+    // From 3 two ways lead to 1, and 4 stands alone.
+    let diamond = program(alloc, 5, &[(3, 0), (3, 2), (0, 1), (2, 1), (2, 1)])?;
+    let order = diamond.order(alloc)?;
     assert_eq!(rt; order.functions(), [3, 0, 2, 1, 4].as_slice());
-    assert_eq!(rt; order.functions().len(), 5);
+    let chain = program(alloc, 3, &[(2, 1), (1, 0)])?;
+    assert_eq!(rt; chain.order(alloc)?.functions(), [2, 1, 0].as_slice());
+    let empty = program(alloc, 0, &[])?;
+    assert_eq!(rt; empty.order(alloc)?.functions().is_empty(), true);
     Ok(())
 }
 
@@ -32,9 +46,17 @@ fn the_first_function_on_a_cycle_is_named(rt: HostRuntime) -> Result<(), Fail> {
     assert_eq!(rt; longer.order(alloc).err(), Some(OrderFault::Cycle(1)));
     let own = program(alloc, 3, &[(0, 1), (2, 2)])?;
     assert_eq!(rt; own.order(alloc).err(), Some(OrderFault::Cycle(2)));
-    let chain = program(alloc, 3, &[(2, 1), (1, 0)])?;
-    assert_eq!(rt; chain.order(alloc)?.functions(), [2, 1, 0].as_slice());
+    Ok(())
+}
+
+#[test]
+fn sums_go_along_the_largest_path(rt: HostRuntime) -> Result<(), Fail> {
+    let alloc = rt.alloc();
+    let diamond = program(alloc, 5, &[(3, 0), (3, 2), (0, 1), (2, 1)])?;
+    let sums = sums_of(alloc, &diamond, &[7, 1, 2, 5, 9])?.ok_or("sizes")?;
+    assert_eq!(rt; sums.before.as_slice(), [5, 12, 5, 0, 0].as_slice());
+    assert_eq!(rt; sums.largest, 13);
     let empty = program(alloc, 0, &[])?;
-    assert_eq!(rt; empty.order(alloc)?.functions().len(), 0);
+    assert_eq!(rt; sums_of(alloc, &empty, &[])?.ok_or("sizes")?.largest, 0);
     Ok(())
 }
