@@ -8,3 +8,4 @@ pub mod Added
 pub mod Opposite
 pub mod SumSteps
 pub mod Consequences
+pub mod Examples

@@ -1,3 +1,5 @@
+ghost use Rattle.std.specs.Prelude.{◌≤◌, ◌↔◌, IsTrue, All};
+
 use crate::{CallGraph, OrderFault, Sums, largest_sums};
 use cerco_base::NoMemory;
 use std::alloc::Global;
@@ -15,14 +17,21 @@ fn program(alloc: Global, functions: u32, calls: &[(u32, u32)]) -> Result<CallGr
     Ok(graph)
 }
 
+fn are_small(sizes: &[u32]) -> bool
+    ensures { IsTrue result ↔ All (λ size. size ≤ 1000) sizes.now }
+{
+    sizes.iter().all(|&size| size <= 1000)
+}
+
 // The largest sums of a program of few functions with small sizes.
 fn sums_of(alloc: Global, graph: &CallGraph, sizes: &[u32]) -> Result<Option<Sums>, OrderFault> {
     let order = graph.order(alloc)?;
-    let few = sizes.len() < 1000 && sizes.len() == graph.functions() as usize;
-    if few && sizes.iter().all(|&size| size <= 1000) {
-        return Ok(Some(largest_sums(alloc, &order, sizes)?));
+    let functions = graph.functions() as usize;
+    if functions >= 1000 || sizes.len() != functions || !are_small(sizes) {
+        return Ok(None);
     }
-    Ok(None)
+    let sums = largest_sums(alloc, &order, sizes)?;
+    Ok(Some(sums))
 }
 
 #[test]
