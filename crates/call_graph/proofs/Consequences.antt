@@ -1,5 +1,5 @@
 -- What follows for the users of the sums: where frames lie, how deep calls go, and that sums fit.
-use Rattle.std.proofs.Common.{◌≡◌, ◌≢◌, ℕ, ◌+◌, ◌*◌, ◌<◌, ◌≤◌, ◌^◌, ◌⊎◌, List, [], ◌∷◌, ◌++◌, length, get_or, replicate, refl, ap, sym, ◌∙◌, subst, inl, inr, arith}
+use Rattle.std.proofs.Common.{◌≡◌, ◌≢◌, ℕ, ◌+◌, ◌*◌, ◌<◌, ◌≤◌, ◌^◌, List, [], ◌∷◌, ◌++◌, length, get_or, replicate, refl, ◌∙◌, subst, inl, inr, arith}
 use Rattle.std.specs.Prelude.{All, ◌↔◌, slice_index}
 use Rattle.std.specs.List.{AllPairs}
 use Rattle.std.proofs.lemmas.Bool.{cases_lt, eqb-true}
@@ -12,8 +12,8 @@ use Rattle.std.proofs.lemmas.Map.Steps.{length-le_from_distinct_below, le-length
 use Rattle.std.proofs.lemmas.Map.Made.{IsDistinct-from_AllPairs}
 use Rattle.std.proofs.lemmas.Map.Views.{Contains-from_any, list_any-from_Contains}
 use Rattle.std.proofs.Math.Nat.{mul-le-mul_right}
-use Rattle.cerco_base.specs.CallOrder.{Called, functions_of, IsCallOrder}
-use Rattle.call_graph.specs.CallPaths.{Calls, CallsIn, AreCalledFrom, IsCallPath, IsLargestSum, IsLargestSumBefore, IsOrderOf, sum_along}
+use Rattle.cerco_base.specs.CallOrder.{Called, functions_of}
+use Rattle.call_graph.specs.CallPaths.{CallsIn, AreCalledFrom, IsCallPath, IsLargestSum, IsLargestSumBefore, IsOrderOf, sum_along}
 use Rattle.call_graph.proofs.Paths.{path-push, path-along}
 use Rattle.call_graph.proofs.OrderPaths.{length-path, length-functions, not_twice, contains_standing}
 use Rattle.call_graph.proofs.SumSteps.{sum-end}
@@ -45,13 +45,14 @@ ends_within_largest functions calls sizes f n largest all before =
 pub largest_along_calls : (functions : ℕ) (r s : ℕ → ℕ → Type 0) → ((f g : ℕ) → r f g ↔ s f g) → (sizes : List ℕ) (n : ℕ) → IsLargestSum functions r sizes n → IsLargestSum functions s sizes n
 largest_along_calls functions r s same sizes n sum =
     record {
-      some =
-          (sum.some.0,
-           elim sum.some.1 [
-             inl way ↦ inl (path-along functions r s (λ f g. (same f g).0) sum.some.0 way)
-           | inr none ↦ inr none
-           ],
-           sum.some.2);
+      some = (
+        sum.some.0,
+        elim sum.some.1 [
+          | inl way ↦ inl (path-along functions r s (λ f g. (same f g).0) sum.some.0 way)
+          | inr none ↦ inr none
+        ],
+        sum.some.2,
+      );
       most = λ path way. sum.most path (path-along functions s r (λ f g. (same f g).1) path way);
     }
 
@@ -66,10 +67,10 @@ before_along_calls functions r s same sizes f n sum =
 pub sum-bound : (sizes path : List ℕ) (most : ℕ) → All (λ s. s ≤ most) sizes → sum_along sizes path ≤ length path * most
 sum-bound sizes path most all =
     let each : (f : ℕ) → get_or sizes f 0 ≤ most =
-        λ f. elim (cases_lt f (length sizes)) [
-          inl h ↦ All-get_or (λ (s : ℕ). s ≤ most) sizes f 0 h all
-        | inr h ↦ let none = get_or_past sizes f 0 h in omega arith
-        ]
+    λ f. elim (cases_lt f (length sizes)) [
+      | inl h ↦ All-get_or (λ (s : ℕ). s ≤ most) sizes f 0 h all
+      | inr h ↦ let none = get_or_past sizes f 0 h in omega arith
+    ]
     in
     sum_by-le (λ (f : ℕ). get_or sizes f 0) most path (λ k d h. each (get_or path k d))
 
@@ -78,18 +79,18 @@ pub length-order : (callees : List (List ℕ)) (order : List Called) → IsOrder
 length-order callees order is =
     let len : length (functions_of order) ≡ length order = length-functions order in
     let apart : AllPairs (λ (x y : ℕ). x ≢ y) (functions_of order) =
-        λ i j d h k e. not_twice order is.in_order (get_or (functions_of order) j d) i j
-          (record { within = omega arith; is = get_or_default (functions_of order) i 0 d (omega arith) ∙ e })
-          (record { within = omega arith; is = get_or_default (functions_of order) j 0 d k })
-          h
+    λ i j d h k e. not_twice order is.in_order (get_or (functions_of order) j d) i j
+    (record { within = omega arith; is = get_or_default (functions_of order) i 0 d (omega arith) ∙ e })
+    (record { within = omega arith; is = get_or_default (functions_of order) j 0 d k })
+    h
     in
     let few : length (functions_of order) ≤ length callees =
-        length-le_from_distinct_below (functions_of order) (length callees) (IsDistinct-from_AllPairs Decides-eqb (functions_of order) apart)
-        (λ q e. (is.functions q).0 (Contains-from_any (λ x y t. eqb-true x y t) q (functions_of order) e))
+    length-le_from_distinct_below (functions_of order) (length callees) (IsDistinct-from_AllPairs Decides-eqb (functions_of order) apart)
+    (λ q e. (is.functions q).0 (Contains-from_any (λ x y t. eqb-true x y t) q (functions_of order) e))
     in
     let many : length callees ≤ length (functions_of order) =
-        le-length_from_below (functions_of order) (length callees)
-        (λ q h. list_any-from_Contains nat_eq_equiv q (functions_of order) ((is.functions q).1 h))
+    le-length_from_below (functions_of order) (length callees)
+    (λ q h. list_any-from_Contains nat_eq_equiv q (functions_of order) ((is.functions q).1 h))
     in
     omega arith
 

@@ -1,5 +1,5 @@
 -- What is known of single numbers and of the elements of lists.
-use Rattle.std.proofs.Common.{◌≡◌, ◌≢◌, ℕ, zero, suc, ◌+◌, ◌<◌, ◌≤◌, ◌⊎◌, List, [], ◌∷◌, ◌++◌, length, get_or, set, refl, ap, sym, subst, inl, inr, arith}
+use Rattle.std.proofs.Common.{◌≡◌, ◌≢◌, ℕ, zero, suc, ◌<◌, ◌⊎◌, List, [], ◌∷◌, ◌++◌, length, get_or, refl, ap, subst, inl, inr, arith}
 use Rattle.std.specs.Prelude.{Contains}
 use Rattle.std.proofs.lemmas.Bool.{cases_lt}
 use Rattle.std.proofs.lemmas.List.{get_or_default}
@@ -7,12 +7,12 @@ use Rattle.std.proofs.lemmas.List.{get_or_default}
 pub same_or_not : (a b : ℕ) → (a ≡ b) ⊎ (a ≢ b)
 same_or_not a b =
     elim (cases_lt a b) [
-      inl h ↦ inr (let ne : a ≢ b = omega arith in ne)
-    | inr h ↦
-        elim (cases_lt b a) [
-          inl g ↦ inr (let ne : a ≢ b = omega arith in ne)
-        | inr g ↦ inl (let e : a ≡ b = omega arith in e)
-        ]
+      | inl h ↦ inr (let ne : a ≢ b = omega arith in ne)
+      | inr h ↦
+          elim (cases_lt b a) [
+            | inl g ↦ inr (let ne : a ≢ b = omega arith in ne)
+            | inr g ↦ inl (let e : a ≡ b = omega arith in e)
+          ]
     ]
 
 pub contains_here : (x : ℕ) (xs : List ℕ) → Contains (x ∷ xs) x
@@ -40,6 +40,6 @@ pub last_cases : (xs : List ℕ) → (xs ≡ []) ⊎ ((front : List ℕ) × (x :
 last_cases [] = inl refl
 last_cases (x ∷ xs) =
     elim (last_cases xs) [
-      inl e ↦ inr ([], x, ap (λ (ys : List ℕ). x ∷ ys) e)
-    | inr h ↦ inr (x ∷ h.0, h.1, ap (λ (ys : List ℕ). x ∷ ys) h.2)
+      | inl e ↦ inr ([], x, ap (λ (ys : List ℕ). x ∷ ys) e)
+      | inr h ↦ inr (x ∷ h.0, h.1, ap (λ (ys : List ℕ). x ∷ ys) h.2)
     ]

@@ -1,10 +1,7 @@
 -- The definitions at small programs.
-use Rattle.std.proofs.Common.{◌≡◌, ℕ, zero, suc, ◌+◌, ◌<◌, ◌≤◌, ◌⊎◌, List, [], ◌∷◌, ◌++◌, length, refl, ap, sym, ◌∙◌, subst, inl, inr, arith, lit<}
-use Rattle.std.specs.Prelude.{Contains}
-use Rattle.cerco_base.specs.CallOrder.{Called}
-use Rattle.call_graph.specs.CallPaths.{list_added, Calls, CallsIn, AreCalledFrom, IsCallPath, IsOnCycle, IsFirstOnCycle, IsLargestSumBefore, sum_along}
-use Rattle.call_graph.proofs.Entries.{contains_cases, contains_none, last_cases}
-use Rattle.call_graph.proofs.Paths.{path-last, path-front, called-last}
+use Rattle.std.proofs.Common.{◌≡◌, ℕ, zero, suc, List, [], ◌∷◌, ◌++◌, refl, subst, inl, inr, arith, lit<}
+use Rattle.call_graph.specs.CallPaths.{list_added, Calls, CallsIn, AreCalledFrom, IsCallPath, IsOnCycle, IsFirstOnCycle, sum_along}
+use Rattle.call_graph.proofs.Entries.{contains_cases, contains_none}
 
 -- 0 calls 1 and 2, and these call 3
 diamond : List (List ℕ)
@@ -33,8 +30,8 @@ skipped : IsCallPath 4 (Calls diamond) (0 ∷ 3 ∷ []) → ⊥
 unfolding diamond
 skipped way =
     elim (contains_cases 1 3 (2 ∷ []) way.1.0) [
-      inl e ↦ omega arith
-    | inr rest ↦ elim (contains_cases 2 3 [] rest) [ inl e ↦ omega arith | inr c ↦ contains_none 3 c ]
+      | inl e ↦ omega arith
+      | inr rest ↦ elim (contains_cases 2 3 [] rest) [ inl e ↦ omega arith | inr c ↦ contains_none 3 c ]
     ]
 
 sum_of_long : sum_along (5 ∷ 7 ∷ 11 ∷ 1 ∷ []) (0 ∷ 2 ∷ 3 ∷ []) ≡ 17

@@ -1,33 +1,33 @@
 -- The callers of each function stay those whose callee it is, and an order by callers is one of the program.
-use Rattle.std.proofs.Common.{◌≡◌, ◌≢◌, ℕ, ◌+◌, ◌<◌, ◌^◌, ◌⊎◌, List, [], ◌∷◌, ◌++◌, length, get_or, set, refl, ap, sym, ◌∙◌, subst, inl, inr, arith, take, drop, Result, Ok, Err}
-use Rattle.std.specs.Prelude.{Contains, ◌↔◌, OnOk, OnErr}
+use Rattle.std.proofs.Common.{◌≡◌, ℕ, ◌<◌, ◌^◌, ◌⊎◌, List, [], ◌∷◌, ◌++◌, length, ap, sym, ◌∙◌, subst, inl, inr, arith, take, drop, Result, Ok, Err}
+use Rattle.std.specs.Prelude.{Contains, OnOk, OnErr}
 use Rattle.std.proofs.Math.Seq.{take-append_seam}
 use Rattle.std.proofs.lemmas.List.{get_or-set_same, get_or-set_other, length-set}
 use Rattle.std.proofs.lemmas.List.Elements.{Contains-append_left, Contains-push, Contains-push_cases}
-use Rattle.cerco_base.specs.CallOrder.{Called, functions_of, callers_at}
+use Rattle.cerco_base.specs.CallOrder.{Called}
 use Rattle.call_graph.specs.CallPaths.{list_added, Calls, CallsIn, IsOrderOf, IsOnCycle}
 use Rattle.call_graph.specs.Nodes.{CallsTo, AreOpposite}
 use Rattle.call_graph.specs.Walks.{list_at, IsOrderByCallers}
 use Rattle.call_graph.proofs.Entries.{same_or_not}
 use Rattle.call_graph.proofs.Paths.{cycle-along}
-use Rattle.call_graph.proofs.OrderPaths.{StandsAt, stands, contains_standing, no_cycle}
+use Rattle.call_graph.proofs.OrderPaths.{stands, no_cycle}
 
 added_cases : (lists : List (List ℕ)) (i n g x : ℕ) → i < length lists → Contains (list_at (list_added lists i n) g) x → Contains (list_at lists g) x ⊎ ((g ≡ i) × (n ≡ x))
 added_cases lists i n g x h c =
     elim (same_or_not g i) [
-      inl e ↦
-        elim (Contains-push_cases (list_at lists i) n x (subst (λ (xs : List ℕ). Contains xs x) (ap (list_at (list_added lists i n)) e ∙ get_or-set_same lists i (list_at lists i ++ n ∷ []) [] h) c)) [
-          inl a ↦ inl (subst (λ (j : ℕ). Contains (list_at lists j) x) (sym e) a)
-        | inr a ↦ inr (e, a)
-        ]
-    | inr ne ↦ inl (subst (λ (xs : List ℕ). Contains xs x) (get_or-set_other lists i g (list_at lists i ++ n ∷ []) [] ne) c)
+      | inl e ↦
+          elim (Contains-push_cases (list_at lists i) n x (subst (λ (xs : List ℕ). Contains xs x) (ap (list_at (list_added lists i n)) e ∙ get_or-set_same lists i (list_at lists i ++ n ∷ []) [] h) c)) [
+            | inl a ↦ inl (subst (λ (j : ℕ). Contains (list_at lists j) x) (sym e) a)
+            | inr a ↦ inr (e, a)
+          ]
+      | inr ne ↦ inl (subst (λ (xs : List ℕ). Contains xs x) (get_or-set_other lists i g (list_at lists i ++ n ∷ []) [] ne) c)
     ]
 
 added_kept : (lists : List (List ℕ)) (i n g x : ℕ) → i < length lists → Contains (list_at lists g) x → Contains (list_at (list_added lists i n) g) x
 added_kept lists i n g x h c =
     elim (same_or_not g i) [
-      inl e ↦ subst (λ (xs : List ℕ). Contains xs x) (sym (ap (list_at (list_added lists i n)) e ∙ get_or-set_same lists i (list_at lists i ++ n ∷ []) [] h)) (Contains-append_left (list_at lists i) (n ∷ []) x (subst (λ (j : ℕ). Contains (list_at lists j) x) e c))
-    | inr ne ↦ subst (λ (xs : List ℕ). Contains xs x) (sym (get_or-set_other lists i g (list_at lists i ++ n ∷ []) [] ne)) c
+      | inl e ↦ subst (λ (xs : List ℕ). Contains xs x) (sym (ap (list_at (list_added lists i n)) e ∙ get_or-set_same lists i (list_at lists i ++ n ∷ []) [] h)) (Contains-append_left (list_at lists i) (n ∷ []) x (subst (λ (j : ℕ). Contains (list_at lists j) x) e c))
+      | inr ne ↦ subst (λ (xs : List ℕ). Contains xs x) (sym (get_or-set_other lists i g (list_at lists i ++ n ∷ []) [] ne)) c
     ]
 
 added_here : (lists : List (List ℕ)) (i n : ℕ) → i < length lists → Contains (list_at (list_added lists i n) i) n
@@ -44,18 +44,18 @@ opposite_added callees callers f g are hf hg =
       lengths = lr ∙ (same ∙ sym le);
       exist = λ a b call.
           elim (added_cases callees f g a b hf call) [
-            inl old ↦ let lt = are.exist a b old in omega arith
-          | inr new ↦ let e = new.1 in omega arith
+            | inl old ↦ let lt = are.exist a b old in omega arith
+            | inr new ↦ let e = new.1 in omega arith
           ];
       called = λ a b call.
           elim (added_cases callees f g a b hf call) [
-            inl old ↦ added_kept callers g f b a hg' (are.called a b old)
-          | inr new ↦ subst (λ (j : ℕ). CallsTo (list_added callers g f) a j) new.1 (subst (λ (j : ℕ). CallsTo (list_added callers g f) j g) (sym new.0) (added_here callers g f hg'))
+            | inl old ↦ added_kept callers g f b a hg' (are.called a b old)
+            | inr new ↦ subst (λ (j : ℕ). CallsTo (list_added callers g f) a j) new.1 (subst (λ (j : ℕ). CallsTo (list_added callers g f) j g) (sym new.0) (added_here callers g f hg'))
           ];
       calling = λ a b call.
           elim (added_cases callers g f b a hg' call) [
-            inl old ↦ added_kept callees f g a b hf (are.calling a b old)
-          | inr new ↦ subst (λ (j : ℕ). Calls (list_added callees f g) j b) new.1 (subst (λ (j : ℕ). Calls (list_added callees f g) f j) (sym new.0) (added_here callees f g hf))
+            | inl old ↦ added_kept callees f g a b hf (are.calling a b old)
+            | inr new ↦ subst (λ (j : ℕ). Calls (list_added callees f g) j b) new.1 (subst (λ (j : ℕ). Calls (list_added callees f g) f j) (sym new.0) (added_here callees f g hf))
           ];
     }
 
@@ -65,12 +65,13 @@ order_of callees callers order are by =
     record {
       functions = λ f.
           (λ c. let h = (by.functions f).0 c in let e = are.lengths in omega arith, λ h. (by.functions f).1 (let e = are.lengths in omega arith));
-      calls = λ f g.
-          (λ call. are.calling f g (subst (λ (xs : List ℕ). Contains xs f) (by.lists call.0 call.1 ∙ ap (list_at callers) call.2) call.3),
-           λ call.
-             let h : g < length callers = let lt = are.exist f g call in let e = are.lengths in omega arith in
-             let at = stands order g ((by.functions g).1 h) in
-             (at.0, at.1.within, at.1.is, subst (λ (xs : List ℕ). Contains xs f) (sym (by.lists at.0 at.1.within ∙ ap (list_at callers) at.1.is)) (are.called f g call)));
+      calls = λ f g. (
+        λ call. are.calling f g (subst (λ (xs : List ℕ). Contains xs f) (by.lists call.0 call.1 ∙ ap (list_at callers) call.2) call.3),
+        λ call.
+            let h : g < length callers = let lt = are.exist f g call in let e = are.lengths in omega arith in
+            let at = stands order g ((by.functions g).1 h) in
+            (at.0, at.1.within, at.1.is, subst (λ (xs : List ℕ). Contains xs f) (sym (by.lists at.0 at.1.within ∙ ap (list_at callers) at.1.is)) (are.called f g call)),
+      );
       in_order = by.in_order;
     }
 

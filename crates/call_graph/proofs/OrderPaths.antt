@@ -1,8 +1,8 @@
 -- Along a call path the places in an order of calls rise, so there is no cycle and no path with more functions than the order.
-use Rattle.std.proofs.Common.{◌≡◌, ℕ, ◌+◌, ◌<◌, ◌≤◌, ◌⊎◌, List, [], ◌∷◌, ◌++◌, length, map, take, get_or, refl, ap, sym, ◌∙◌, subst, inl, inr, arith, length-append}
-use Rattle.std.specs.Prelude.{Contains, All}
+use Rattle.std.proofs.Common.{◌≡◌, ℕ, ◌+◌, ◌<◌, ◌≤◌, List, [], ◌∷◌, ◌++◌, length, take, get_or, ap, sym, ◌∙◌, subst, inl, inr, arith, length-append}
+use Rattle.std.specs.Prelude.{Contains}
 use Rattle.std.proofs.lemmas.Bool.{cases_lt}
-use Rattle.std.proofs.lemmas.List.{get_or-take, length-take-le, length-map, get_or_default}
+use Rattle.std.proofs.lemmas.List.{get_or-take, length-take-le, length-map}
 use Rattle.std.proofs.lemmas.List.Elements.{All-contains}
 use Rattle.cerco_base.specs.CallOrder.{Called, functions_of, callers_at, IsCallOrder}
 use Rattle.call_graph.specs.CallPaths.{AreCalledFrom, CallsIn, IsCallPath, IsOnCycle}
@@ -45,12 +45,12 @@ not_twice order o f i j s t h =
 pub one_place : (order : List Called) → IsCallOrder order → (f i j : ℕ) → StandsAt order f i → StandsAt order f j → i ≡ j
 one_place order o f i j s t =
     elim (cases_lt i j) [
-      inl h ↦ absurd (not_twice order o f i j s t h)
-    | inr h ↦
-        elim (cases_lt j i) [
-          inl g ↦ absurd (not_twice order o f j i t s g)
-        | inr g ↦ let e : i ≡ j = omega arith in e
-        ]
+      | inl h ↦ absurd (not_twice order o f i j s t h)
+      | inr h ↦
+          elim (cases_lt j i) [
+            | inl g ↦ absurd (not_twice order o f j i t s g)
+            | inr g ↦ let e : i ≡ j = omega arith in e
+          ]
     ]
 
 -- a caller stands before what it calls
@@ -96,17 +96,17 @@ pub length-path : (order : List Called) → IsCallOrder order → (functions : �
 length-path order o functions all [] way = absurd way
 length-path order o functions all (f ∷ path) way =
     elim (last_cases path) [
-      inl e ↦
-        let at = stands order f (all f way.0) in
-        let w = at.1.within in
-        let none : length path ≡ 0 = ap length e in
-        omega arith
-    | inr h ↦
-        let along = subst (AreCalledFrom (CallsIn order) f) h.2 way.1 in
-        let last = last_stands order f h.0 h.1 along in
-        let first = path_rises order o f h.0 h.1 last.0 along last.1 in
-        let w = last.1.within in
-        let lt = first.1 in
-        let len : length path ≡ length h.0 + 1 = ap length h.2 ∙ length-append h.0 (h.1 ∷ []) in
-        omega arith
+      | inl e ↦
+          let at = stands order f (all f way.0) in
+          let w = at.1.within in
+          let none : length path ≡ 0 = ap length e in
+          omega arith
+      | inr h ↦
+          let along = subst (AreCalledFrom (CallsIn order) f) h.2 way.1 in
+          let last = last_stands order f h.0 h.1 along in
+          let first = path_rises order o f h.0 h.1 last.0 along last.1 in
+          let w = last.1.within in
+          let lt = first.1 in
+          let len : length path ≡ length h.0 + 1 = ap length h.2 ∙ length-append h.0 (h.1 ∷ []) in
+          omega arith
     ]

@@ -1,6 +1,5 @@
 -- Call paths that are made longer, cut, or told of another relation.
-use Rattle.std.proofs.Common.{◌≡◌, ℕ, ◌+◌, ◌<◌, ◌≤◌, ◌⊎◌, List, [], ◌∷◌, ◌++◌, refl, ap, sym, ◌∙◌, subst, inl, inr, arith}
-use Rattle.std.specs.Prelude.{Contains}
+use Rattle.std.proofs.Common.{ℕ, List, [], ◌∷◌, ◌++◌}
 use Rattle.call_graph.specs.CallPaths.{AreCalledFrom, IsCallPath, IsOnCycle}
 
 pub called-push : (calls : ℕ → ℕ → Type 0) (f : ℕ) (path : List ℕ) (g h : ℕ) → AreCalledFrom calls f (path ++ g ∷ []) → calls g h → AreCalledFrom calls f ((path ++ g ∷ []) ++ h ∷ [])

@@ -1,7 +1,6 @@
 -- What a search along the calls keeps, and what its end says.
-use Rattle.std.proofs.Common.{◌≡◌, ◌≢◌, ℕ, ◌+◌, ◌<◌, ◌≤◌, ◌⊎◌, Bool, true, false, cond, List, [], ◌∷◌, ◌++◌, length, get_or, set, refl, ap, sym, ◌∙◌, subst, inl, inr, arith, length-append}
+use Rattle.std.proofs.Common.{◌≡◌, ℕ, ◌+◌, ◌<◌, ◌⊎◌, Bool, true, false, cond, List, [], ◌∷◌, ◌++◌, length, get_or, set, refl, ap, sym, ◌∙◌, subst, inl, inr, arith, length-append}
 use Rattle.std.specs.Prelude.{Contains, All}
-use Rattle.std.specs.List.{sum_by}
 use Rattle.std.proofs.lemmas.Bool.{cases_lt}
 use Rattle.std.proofs.lemmas.List.{get_or_past, get_or-set_same, get_or-set_other, length-set, get_or_default, get_or-map}
 use Rattle.std.proofs.lemmas.List.Elements.{Contains-append_left, Contains-push, Contains-push_cases}
@@ -18,8 +17,8 @@ use Rattle.call_graph.proofs.Turns.{length-callees}
 seen_within : (seen : List Bool) (f : ℕ) → IsSeen seen f → f < length seen
 seen_within seen f is =
     elim (cases_lt f (length seen)) [
-      inl h ↦ h
-    | inr h ↦ let none = get_or_past seen f false h in absurd cc
+      | inl h ↦ h
+      | inr h ↦ let none = get_or_past seen f false h in absurd cc
     ]
 
 -- a callee that was seen already
@@ -41,16 +40,16 @@ pub sees_new : (xs : List ℕ) (goal c : ℕ) (s : List Bool) (w : List ℕ) (se
 sees_new xs goal c s w seen work sees other within is_new =
     let here : IsSeen (set seen c true) c = get_or-set_same seen c true false within in
     let still : (g : ℕ) → IsSeen seen g → IsSeen (set seen c true) g =
-        λ g e. elim (same_or_not g c) [
-          inl same ↦ subst (IsSeen (set seen c true)) (sym same) here
-        | inr ne ↦ get_or-set_other seen c g true false ne ∙ e
-        ]
+    λ g e. elim (same_or_not g c) [
+      | inl same ↦ subst (IsSeen (set seen c true)) (sym same) here
+      | inr ne ↦ get_or-set_other seen c g true false ne ∙ e
+    ]
     in
     let before : (g : ℕ) → IsSeen (set seen c true) g → (c ≡ g) ⊎ IsSeen seen g =
-        λ g e. elim (same_or_not g c) [
-          inl same ↦ inl (sym same)
-        | inr ne ↦ inr (sym (get_or-set_other seen c g true false ne) ∙ e)
-        ]
+    λ g e. elim (same_or_not g c) [
+      | inl same ↦ inl (sym same)
+      | inr ne ↦ inr (sym (get_or-set_other seen c g true false ne) ∙ e)
+    ]
     in
     record {
       seen_length = length-set seen c true ∙ sees.seen_length;
@@ -60,13 +59,13 @@ sees_new xs goal c s w seen work sees other within is_new =
       work_still = λ g d. Contains-append_left work (c ∷ []) g (sees.work_still g d);
       seen_new = λ g e.
           elim (before g e) [
-            inl same ↦ inr (subst (Contains (xs ++ c ∷ [])) same (Contains-push xs c), subst (Contains (work ++ c ∷ [])) same (Contains-push work c))
-          | inr old ↦ elim (sees.seen_new g old) [ inl a ↦ inl a | inr a ↦ inr (Contains-append_left xs (c ∷ []) g a.0, Contains-append_left work (c ∷ []) g a.1) ]
+            | inl same ↦ inr (subst (Contains (xs ++ c ∷ [])) same (Contains-push xs c), subst (Contains (work ++ c ∷ [])) same (Contains-push work c))
+            | inr old ↦ elim (sees.seen_new g old) [ inl a ↦ inl a | inr a ↦ inr (Contains-append_left xs (c ∷ []) g a.0, Contains-append_left work (c ∷ []) g a.1) ]
           ];
       work_new = λ g d.
           elim (Contains-push_cases work c g d) [
-            inl a ↦ elim (sees.work_new g a) [ inl b ↦ inl b | inr b ↦ inr (still g b) ]
-          | inr e ↦ inr (subst (IsSeen (set seen c true)) e here)
+            | inl a ↦ elim (sees.work_new g a) [ inl b ↦ inl b | inr b ↦ inr (still g b) ]
+            | inr e ↦ inr (subst (IsSeen (set seen c true)) e here)
           ];
       steps =
           let e : unseen (set seen c true) + cond {A = ℕ} (get_or seen c false) 0 1 ≡ unseen seen + 0 = sum_by-set (λ (b : Bool). cond {A = ℕ} b 0 1) seen c true false within in
@@ -80,8 +79,8 @@ sees_new xs goal c s w seen work sees other within is_new =
 reaches_next : (callees : List (List ℕ)) (goal : ℕ) (seen : List Bool) (work : List ℕ) → IsSearch callees goal seen work → (f g : ℕ) → (f ≡ goal) ⊎ IsSeen seen f → Calls callees f g → Reaches callees goal g
 reaches_next callees goal seen work search f g met call =
     elim met [
-      inl e ↦ ([], (subst (λ (x : ℕ). Calls callees x g) e call, tt))
-    | inr is ↦ let r = search.reached f is in (r.0 ++ f ∷ [], called-push (Calls callees) goal r.0 f g r.1 call)
+      | inl e ↦ ([], (subst (λ (x : ℕ). Calls callees x g) e call, tt))
+      | inr is ↦ let r = search.reached f is in (r.0 ++ f ∷ [], called-push (Calls callees) goal r.0 f g r.1 call)
     ]
 
 pub from_met : (callees : List (List ℕ)) (goal : ℕ) (seen : List Bool) (work rest : List ℕ) (from : ℕ) → IsSearch callees goal seen work → work ≡ rest ++ from ∷ [] → (from ≡ goal) ⊎ IsSeen seen from
@@ -93,44 +92,44 @@ search_step callees goal seen work rest from list new more search taken is sees 
     let to_list : (g : ℕ) → Contains list g → Calls callees from g = λ g c. subst (λ (xs : List ℕ). Contains xs g) is c in
     let of_list : (g : ℕ) → Calls callees from g → Contains list g = λ g c. subst (λ (xs : List ℕ). Contains xs g) (sym is) c in
     let was_done : (g : ℕ) → (g ≡ goal) ⊎ IsSeen seen g → Contains more g ⊎ ((h : ℕ) → Calls callees g h → IsSeen new h) =
-        λ g m. elim (search.done g m) [
-          inl c ↦
-            elim (Contains-push_cases rest from g (subst (λ (xs : List ℕ). Contains xs g) taken c)) [
-              inl a ↦ inl (sees.work_still g a)
+    λ g m. elim (search.done g m) [
+      | inl c ↦
+          elim (Contains-push_cases rest from g (subst (λ (xs : List ℕ). Contains xs g) taken c)) [
+            | inl a ↦ inl (sees.work_still g a)
             | inr e ↦ inr (λ h call. sees.all h (of_list h (subst (λ (x : ℕ). Calls callees x h) (sym e) call)))
-            ]
-        | inr all ↦ inr (λ h call. sees.seen_still h (all h call))
-        ]
+          ]
+      | inr all ↦ inr (λ h call. sees.seen_still h (all h call))
+    ]
     in
     record {
       seen_length = sees.seen_length ∙ search.seen_length;
       reached = λ g e.
           elim (sees.seen_new g e) [
-            inl old ↦ search.reached g old
-          | inr a ↦ reaches_next callees goal seen work search from g met (to_list g a.0)
+            | inl old ↦ search.reached g old
+            | inr a ↦ reaches_next callees goal seen work search from g met (to_list g a.0)
           ];
       met = λ g c.
           elim (sees.work_new g c) [
-            inl a ↦
-              elim (search.met g (subst (λ (xs : List ℕ). Contains xs g) (sym taken) (Contains-append_left rest (from ∷ []) g a))) [
-                inl e ↦ inl e
-              | inr e ↦ inr (sees.seen_still g e)
-              ]
-          | inr e ↦ inr e
+            | inl a ↦
+                elim (search.met g (subst (λ (xs : List ℕ). Contains xs g) (sym taken) (Contains-append_left rest (from ∷ []) g a))) [
+                  | inl e ↦ inl e
+                  | inr e ↦ inr (sees.seen_still g e)
+                ]
+            | inr e ↦ inr e
           ];
       not_back = λ e.
           elim (sees.seen_new goal e) [
-            inl old ↦ search.not_back old
-          | inr a ↦ sees.no_goal a.0
+            | inl old ↦ search.not_back old
+            | inr a ↦ sees.no_goal a.0
           ];
       done = λ g m.
           elim m [
-            inl e ↦ was_done g (inl e)
-          | inr e ↦
-              elim (sees.seen_new g e) [
-                inl old ↦ was_done g (inr old)
-              | inr a ↦ inl a.1
-              ]
+            | inl e ↦ was_done g (inl e)
+            | inr e ↦
+                elim (sees.seen_new g e) [
+                  | inl old ↦ was_done g (inr old)
+                  | inr a ↦ inl a.1
+                ]
           ];
     }
 
@@ -156,8 +155,8 @@ search_over callees goal seen work functions search none cycle =
 pub from_within : (nodes : List Node) (goal : ℕ) (seen : List Bool) (work rest : List ℕ) (from : ℕ) → IsSearch (callees_of nodes) goal seen work → work ≡ rest ++ from ∷ [] → goal < length nodes → from < length nodes
 from_within nodes goal seen work rest from search taken within =
     elim (from_met (callees_of nodes) goal seen work rest from search taken) [
-      inl e ↦ omega arith
-    | inr is ↦ let h = seen_within seen from is in let e = search.seen_length in let l = length-callees nodes in omega arith
+      | inl e ↦ omega arith
+      | inr is ↦ let h = seen_within seen from is in let e = search.seen_length in let l = length-callees nodes in omega arith
     ]
 
 pub callees_within : (nodes : List Node) (goal : ℕ) (seen : List Bool) (work : List ℕ) (from : ℕ) (list : List ℕ) → AreNodes nodes → IsSearch (callees_of nodes) goal seen work → list ≡ list_at (callees_of nodes) from → All (λ c. c < length seen) list

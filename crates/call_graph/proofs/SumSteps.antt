@@ -1,5 +1,5 @@
 -- The largest sums before functions, one function after the other in the order of calls.
-use Rattle.std.proofs.Common.{◌≡◌, ◌≢◌, ℕ, ◌+◌, ◌<◌, ◌≤◌, ◌^◌, ◌⊎◌, List, [], ◌∷◌, ◌++◌, length, get_or, set, take, max, nat_cmp, refl, ap, sym, ◌∙◌, subst, inl, inr, arith, below_more}
+use Rattle.std.proofs.Common.{◌≡◌, ◌≢◌, ℕ, ◌+◌, ◌<◌, ◌≤◌, ◌^◌, List, [], ◌∷◌, ◌++◌, length, get_or, set, take, max, nat_cmp, ap, sym, ◌∙◌, subst, inl, inr, arith, below_more}
 use Rattle.std.specs.Prelude.{Contains, All, ◌↔◌}
 use Rattle.std.proofs.lemmas.Bool.{cases_lt}
 use Rattle.std.proofs.lemmas.Bool.Decides.{nat_tests}
@@ -21,18 +21,18 @@ with_push xs before sizes n c w =
     record {
       some =
           elim (cases_lt n (get_or before c 0 + get_or sizes c 0)) [
-            inl h ↦ inr (c, Contains-push xs c, let e : get_or before c 0 + get_or sizes c 0 ≡ max n (get_or before c 0 + get_or sizes c 0) = omega arith in e)
-          | inr h ↦
-              let e : n ≡ max n (get_or before c 0 + get_or sizes c 0) = omega arith in
-              elim w.some [
-                inl zero ↦ inl (sym e ∙ zero)
-              | inr there ↦ inr (there.0, Contains-append_left xs (c ∷ []) there.0 there.1, there.2 ∙ e)
-              ]
+            | inl h ↦ inr (c, Contains-push xs c, let e : get_or before c 0 + get_or sizes c 0 ≡ max n (get_or before c 0 + get_or sizes c 0) = omega arith in e)
+            | inr h ↦
+                let e : n ≡ max n (get_or before c 0 + get_or sizes c 0) = omega arith in
+                elim w.some [
+                  | inl zero ↦ inl (sym e ∙ zero)
+                  | inr there ↦ inr (there.0, Contains-append_left xs (c ∷ []) there.0 there.1, there.2 ∙ e)
+                ]
           ];
       most = λ d there.
           elim (Contains-push_cases xs c d there) [
-            inl old ↦ let le = w.most d old in omega arith
-          | inr same ↦ subst (λ (x : ℕ). get_or before x 0 + get_or sizes x 0 ≤ max n (get_or before c 0 + get_or sizes c 0)) same (omega arith)
+            | inl old ↦ let le = w.most d old in omega arith
+            | inr same ↦ subst (λ (x : ℕ). get_or before x 0 + get_or sizes x 0 ≤ max n (get_or before c 0 + get_or sizes c 0)) same (omega arith)
           ];
     }
 
@@ -73,27 +73,28 @@ sum_before order sizes before i largest f n o functions sums at with' =
     record {
       some =
           elim with'.some [
-            inl zero ↦ ([], ((functions f).0 (contains_standing order f i at), tt), sym zero)
-          | inr there ↦
-              let c = caller_known order sizes before i largest there.0 o sums at.within there.1 in
-              (c.some.0 ++ there.0 ∷ [],
-               path-push (length sizes) (CallsIn order) c.some.0 there.0 f c.some.1 (i, at.within, at.is, there.1),
-               (let e = sum-end sizes c.some.0 there.0 in let s = c.some.2 in let t = there.2 in let g : sum_along sizes (c.some.0 ++ there.0 ∷ []) ≡ n = omega arith in g))
+            | inl zero ↦ ([], ((functions f).0 (contains_standing order f i at), tt), sym zero)
+            | inr there ↦
+                let c = caller_known order sizes before i largest there.0 o sums at.within there.1 in (
+                  c.some.0 ++ there.0 ∷ [],
+                  path-push (length sizes) (CallsIn order) c.some.0 there.0 f c.some.1 (i, at.within, at.is, there.1),
+                  (let e = sum-end sizes c.some.0 there.0 in let s = c.some.2 in let t = there.2 in let g : sum_along sizes (c.some.0 ++ there.0 ∷ []) ≡ n = omega arith in g),
+                )
           ];
       most = λ path way.
           elim (last_cases path) [
-            inl none ↦ let zero : sum_along sizes path ≡ 0 = ap (sum_along sizes) none in omega arith
-          | inr last ↦
-              let along = subst (λ (p : List ℕ). IsCallPath (length sizes) (CallsIn order) (p ++ f ∷ [])) last.2 way in
-              let call = path-last (length sizes) (CallsIn order) last.0 last.1 f along in
-              let front = path-front (length sizes) (CallsIn order) last.0 last.1 f along in
-              let same = one_place order o f call.0 i (record { within = call.1; is = call.2 }) at in
-              let there = subst (λ (j : ℕ). Contains (callers_at order j) last.1) same call.3 in
-              let c = caller_known order sizes before i largest last.1 o sums at.within there in
-              let le = c.most last.0 front in
-              let bound = with'.most last.1 there in
-              let e : sum_along sizes path ≡ sum_along sizes last.0 + get_or sizes last.1 0 = ap (sum_along sizes) last.2 ∙ sum-end sizes last.0 last.1 in
-              omega arith
+            | inl none ↦ let zero : sum_along sizes path ≡ 0 = ap (sum_along sizes) none in omega arith
+            | inr last ↦
+                let along = subst (λ (p : List ℕ). IsCallPath (length sizes) (CallsIn order) (p ++ f ∷ [])) last.2 way in
+                let call = path-last (length sizes) (CallsIn order) last.0 last.1 f along in
+                let front = path-front (length sizes) (CallsIn order) last.0 last.1 f along in
+                let same = one_place order o f call.0 i (record { within = call.1; is = call.2 }) at in
+                let there = subst (λ (j : ℕ). Contains (callers_at order j) last.1) same call.3 in
+                let c = caller_known order sizes before i largest last.1 o sums at.within there in
+                let le = c.most last.0 front in
+                let bound = with'.most last.1 there in
+                let e : sum_along sizes path ≡ sum_along sizes last.0 + get_or sizes last.1 0 = ap (sum_along sizes) last.2 ∙ sum-end sizes last.0 last.1 in
+                omega arith
           ];
     }
 
@@ -119,10 +120,12 @@ sums_next order sizes before i largest f n o functions sums at with' =
           (subst (λ (x : ℕ). IsLargestSumBefore (length sizes) (CallsIn order) sizes x (get_or (set before f n) x 0)) (sym at.is) (subst (IsLargestSumBefore (length sizes) (CallsIn order) sizes f) (sym here) own));
       some =
           elim (cases_lt largest (n + get_or sizes f 0)) [
-            inl h ↦
-              (own.some.0 ++ f ∷ [], inl own.some.1,
-               (let e = sum-end sizes own.some.0 f in let s = own.some.2 in let g : sum_along sizes (own.some.0 ++ f ∷ []) ≡ max largest (n + get_or sizes f 0) = omega arith in g))
-          | inr h ↦ (sums.some.0, sums.some.1, sums.some.2 ∙ (let e : largest ≡ max largest (n + get_or sizes f 0) = omega arith in e))
+            | inl h ↦ (
+              own.some.0 ++ f ∷ [],
+              inl own.some.1,
+              (let e = sum-end sizes own.some.0 f in let s = own.some.2 in let g : sum_along sizes (own.some.0 ++ f ∷ []) ≡ max largest (n + get_or sizes f 0) = omega arith in g),
+            )
+            | inr h ↦ (sums.some.0, sums.some.1, sums.some.2 ∙ (let e : largest ≡ max largest (n + get_or sizes f 0) = omega arith in e))
           ];
       most = below_more Q i
           (λ k h. let le = sums.most k h in let e = still k h in omega arith)
@@ -146,16 +149,16 @@ sums_largest order sizes before n largest functions sums whole =
       some = sums.some;
       most = λ path way.
           elim (last_cases path) [
-            inl none ↦ let zero : sum_along sizes path ≡ 0 = ap (sum_along sizes) none in omega arith
-          | inr last ↦
-              let along = subst (IsCallPath (length sizes) (CallsIn order)) last.2 way in
-              let at = end_stands order (length sizes) (λ f h. (functions f).1 h) last.0 last.1 along in
-              let w = at.1.within in
-              let sum = subst (λ (x : ℕ). IsLargestSumBefore (length sizes) (CallsIn order) sizes x (get_or before x 0)) at.1.is (sums.sums at.0 (omega arith)) in
-              let le = sum.most last.0 along in
-              let bound = subst (λ (x : ℕ). get_or before x 0 + get_or sizes x 0 ≤ largest) at.1.is (sums.most at.0 (omega arith)) in
-              let e : sum_along sizes path ≡ sum_along sizes last.0 + get_or sizes last.1 0 = ap (sum_along sizes) last.2 ∙ sum-end sizes last.0 last.1 in
-              omega arith
+            | inl none ↦ let zero : sum_along sizes path ≡ 0 = ap (sum_along sizes) none in omega arith
+            | inr last ↦
+                let along = subst (IsCallPath (length sizes) (CallsIn order)) last.2 way in
+                let at = end_stands order (length sizes) (λ f h. (functions f).1 h) last.0 last.1 along in
+                let w = at.1.within in
+                let sum = subst (λ (x : ℕ). IsLargestSumBefore (length sizes) (CallsIn order) sizes x (get_or before x 0)) at.1.is (sums.sums at.0 (omega arith)) in
+                let le = sum.most last.0 along in
+                let bound = subst (λ (x : ℕ). get_or before x 0 + get_or sizes x 0 ≤ largest) at.1.is (sums.most at.0 (omega arith)) in
+                let e : sum_along sizes path ≡ sum_along sizes last.0 + get_or sizes last.1 0 = ap (sum_along sizes) last.2 ∙ sum-end sizes last.0 last.1 in
+                omega arith
           ];
     }
 

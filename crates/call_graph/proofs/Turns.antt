@@ -1,5 +1,5 @@
 -- One step of the walk, at the topmost function of the stack.
-use Rattle.std.proofs.Common.{◌≡◌, ◌≢◌, ℕ, ◌+◌, ◌<◌, ◌≤◌, ◌⊎◌, List, [], ◌∷◌, ◌++◌, length, map, get_or, set, reverse, refl, ap, sym, ◌∙◌, subst, inl, inr, arith, length-append}
+use Rattle.std.proofs.Common.{◌≡◌, ℕ, ◌+◌, ◌<◌, ◌≤◌, List, [], ◌∷◌, ◌++◌, length, get_or, set, reverse, refl, ap, sym, ◌∙◌, subst, inl, inr, arith, length-append}
 use Rattle.std.specs.Prelude.{Contains, All}
 use Rattle.std.specs.List.{sum_by}
 use Rattle.std.proofs.lemmas.List.{reverse-append, length-map, get_or-map, get_or_past, get_or_default, get_or-set_same, get_or_read}
@@ -7,13 +7,13 @@ use Rattle.std.proofs.lemmas.Bool.{cases_lt}
 use Rattle.cerco_base.specs.CallOrder.{Called, functions_of}
 use Rattle.call_graph.specs.CallPaths.{IsOnCycle}
 use Rattle.call_graph.specs.Nodes.{callees_of, callers_of, CallsTo, AreNodes}
-use Rattle.call_graph.specs.Walks.{list_at, mark_of, IsOpenPath, IsWalk, IsWalkOf, Opens, Places, Steps, steps_of, IsUnderWay, IsOrderByCallers}
+use Rattle.call_graph.specs.Walks.{list_at, mark_of, IsWalk, IsWalkOf, Opens, Places, Steps, steps_of, IsUnderWay, IsOrderByCallers}
 use Rattle.call_graph.specs.declared.nodes.Node.{Node}
 use Rattle.call_graph.specs.declared.walk.Walk.{Walk}
 use Rattle.call_graph.specs.declared.walk.Mark.{Mark}
 use Rattle.call_graph.specs.declared.walk.Mark.TheVariants.{New, Open, Placed}
 use Rattle.call_graph.proofs.Entries.{contains_at, contains_none}
-use Rattle.call_graph.proofs.WalkSteps.{is_placed, marked_within, opened, placed, known_more, leads_down, callers_placed, top_missing, steps_opened, steps_placed, still_new}
+use Rattle.call_graph.proofs.WalkSteps.{is_placed, marked_within, opened, placed, known_more, leads_down, top_missing, steps_opened, steps_placed, still_new}
 
 pub reverse-push : (xs : List ℕ) (x : ℕ) → reverse (xs ++ x ∷ []) ≡ x ∷ reverse xs
 reverse-push xs x = reverse-append xs (x ∷ [])
@@ -34,10 +34,10 @@ pub caller_within : (nodes : List Node) → AreNodes nodes → (f g : ℕ) → C
 caller_within nodes are f g c =
     let call = are.calling f g c in
     elim (cases_lt f (length nodes)) [
-      inl h ↦ h
-    | inr h ↦
-        let none : list_at (callees_of nodes) f ≡ [] = let e = length-callees nodes in get_or_past (callees_of nodes) f [] (omega arith) in
-        absurd (contains_none g (subst (λ (xs : List ℕ). Contains xs g) none call))
+      | inl h ↦ h
+      | inr h ↦
+          let none : list_at (callees_of nodes) f ≡ [] = let e = length-callees nodes in get_or_past (callees_of nodes) f [] (omega arith) in
+          absurd (contains_none g (subst (λ (xs : List ℕ). Contains xs g) none call))
     ]
 
 -- the walk at its topmost function, of which the callers are these

@@ -1,5 +1,5 @@
 -- What the steps of the walk keep.
-use Rattle.std.proofs.Common.{◌≡◌, ◌≢◌, ℕ, ◌+◌, ◌<◌, ◌≤◌, ◌⊎◌, List, [], ◌∷◌, ◌++◌, length, map, get_or, set, refl, ap, sym, ◌∙◌, subst, inl, inr, arith, length-append, below_more}
+use Rattle.std.proofs.Common.{◌≡◌, ◌≢◌, ℕ, ◌+◌, ◌<◌, ◌≤◌, List, [], ◌∷◌, ◌++◌, length, map, get_or, set, refl, ap, sym, ◌∙◌, subst, inl, inr, arith, length-append, below_more}
 use Rattle.std.specs.Prelude.{Contains, All}
 use Rattle.std.specs.List.{sum_by}
 use Rattle.std.proofs.lemmas.Bool.{cases_lt}
@@ -7,14 +7,14 @@ use Rattle.std.proofs.lemmas.List.{map-append, get_or_past, get_or_default, get_
 use Rattle.std.proofs.Math.Seq.{get_or-append_seam}
 use Rattle.std.proofs.lemmas.List.Elements.{Contains-append_left, Contains-push, Contains-push_cases}
 use Rattle.std.proofs.lemmas.List.Sums.{sum_by-set}
-use Rattle.cerco_base.specs.CallOrder.{Called, functions_of, callers_at, IsCallOrder}
+use Rattle.cerco_base.specs.CallOrder.{Called, functions_of, callers_at}
 use Rattle.cerco_base.proofs.CallOrders.{order-push}
-use Rattle.call_graph.specs.CallPaths.{AreCalledFrom, IsOnCycle}
+use Rattle.call_graph.specs.CallPaths.{AreCalledFrom}
 use Rattle.call_graph.specs.Nodes.{CallsTo}
 use Rattle.call_graph.specs.Walks.{list_at, mark_of, CallsFirst, IsOpenPath, IsWalk, steps_of}
 use Rattle.call_graph.specs.declared.walk.Mark.{Mark}
 use Rattle.call_graph.specs.declared.walk.Mark.TheVariants.{New, Open, Placed}
-use Rattle.call_graph.proofs.Entries.{same_or_not, contains_here, contains_there, contains_cases, contains_none, contains_at}
+use Rattle.call_graph.proofs.Entries.{same_or_not, contains_here, contains_there, contains_cases, contains_none}
 
 pub is_placed : (m : Mark) → (m ≡ New → ⊥) → (m ≡ Open → ⊥) → m ≡ Placed
 is_placed New a b = absurd (a refl)
@@ -30,8 +30,8 @@ is_new Placed a b = absurd (a refl)
 pub marked_within : (marks : List Mark) (f : ℕ) → (mark_of marks f ≡ New → ⊥) → f < length marks
 marked_within marks f other =
     elim (cases_lt f (length marks)) [
-      inl h ↦ h
-    | inr h ↦ absurd (other (get_or_past marks f New h))
+      | inl h ↦ h
+      | inr h ↦ absurd (other (get_or_past marks f New h))
     ]
 
 pub mark_read : (marks : List Mark) (f : ℕ) (m : Mark) → f < length marks → m ≡ get_or marks f m → mark_of marks f ≡ m
@@ -47,8 +47,8 @@ mark_other marks f g m ne = get_or-set_other marks f g m New ne
 mark_before : (marks : List Mark) (f g : ℕ) (m n : Mark) → f < length marks → (m ≡ n → ⊥) → mark_of (set marks f m) g ≡ n → mark_of marks g ≡ n
 mark_before marks f g m n h ne is =
     elim (same_or_not g f) [
-      inl e ↦ absurd (ne (sym (mark_same marks f m h) ∙ (ap (mark_of (set marks f m)) (sym e) ∙ is)))
-    | inr other ↦ sym (mark_other marks f g m other) ∙ is
+      | inl e ↦ absurd (ne (sym (mark_same marks f m h) ∙ (ap (mark_of (set marks f m)) (sym e) ∙ is)))
+      | inr other ↦ sym (mark_other marks f g m other) ∙ is
     ]
 
 mark_still : (marks : List Mark) (f g : ℕ) (m n : Mark) → (mark_of marks f ≡ n → ⊥) → mark_of marks g ≡ n → mark_of (set marks f m) g ≡ n
@@ -59,8 +59,8 @@ on_path : (callers : List (List ℕ)) (marks : List Mark) (stack : List ℕ) (g 
 on_path callers marks [] g path c = absurd (contains_none g c)
 on_path callers marks (f ∷ below) g path c =
     elim (contains_cases f g below c) [
-      inl e ↦ ap (mark_of marks) (sym e) ∙ path.0
-    | inr d ↦ on_path callers marks below g path.3 d
+      | inl e ↦ ap (mark_of marks) (sym e) ∙ path.0
+      | inr d ↦ on_path callers marks below g path.3 d
     ]
 
 path_still : (callers : List (List ℕ)) (marks : List Mark) (stack : List ℕ) (g : ℕ) (m : Mark) → IsOpenPath callers marks stack → (Contains stack g → ⊥) → IsOpenPath callers (set marks g m) stack
@@ -83,8 +83,8 @@ opened callers marks known stack order f w new h first =
       known_placed = λ g j k. mark_still marks f (get_or (list_at callers g) j 0) Open Placed not_placed (w.known_placed g j k);
       on_stack = λ g e.
           elim (same_or_not f g) [
-            inl same ↦ subst (Contains (f ∷ stack)) same (contains_here f stack)
-          | inr other ↦ contains_there f g stack (w.on_stack g (sym (mark_other marks f g Open (λ x. other (sym x))) ∙ e))
+            | inl same ↦ subst (Contains (f ∷ stack)) same (contains_here f stack)
+            | inr other ↦ contains_there f g stack (w.on_stack g (sym (mark_other marks f g Open (λ x. other (sym x))) ∙ e))
           ];
       path = (mark_same marks f Open h, first, not_there, path_still callers marks stack f Open w.path not_there);
     }
@@ -132,13 +132,13 @@ placed callers marks known below order f w all =
       placed = λ g e.
           subst (λ (fs : List ℕ). Contains fs g) (sym (functions-push order f (list_at callers f)))
           (elim (same_or_not f g) [
-            inl same ↦ subst (Contains (functions_of order ++ f ∷ [])) same (Contains-push (functions_of order) f)
-          | inr other ↦ Contains-append_left (functions_of order) (f ∷ []) g (w.placed g (sym (mark_other marks f g Placed (λ x. other (sym x))) ∙ e))
+            | inl same ↦ subst (Contains (functions_of order ++ f ∷ [])) same (Contains-push (functions_of order) f)
+            | inr other ↦ Contains-append_left (functions_of order) (f ∷ []) g (w.placed g (sym (mark_other marks f g Placed (λ x. other (sym x))) ∙ e))
           ]);
       marked = λ g d.
           elim (Contains-push_cases (functions_of order) f g (subst (λ (fs : List ℕ). Contains fs g) (functions-push order f (list_at callers f)) d)) [
-            inl before ↦ still g (w.marked g before)
-          | inr same ↦ ap (mark_of (set marks f Placed)) (sym same) ∙ mark_same marks f Placed h
+            | inl before ↦ still g (w.marked g before)
+            | inr same ↦ ap (mark_of (set marks f Placed)) (sym same) ∙ mark_same marks f Placed h
           ];
       lists = lists-push callers order f w.lists;
       in_order = order-push order c w.in_order (top_missing callers marks known below order f w) (callers_placed callers marks known (f ∷ below) order f w all);
@@ -146,8 +146,8 @@ placed callers marks known below order f w all =
       known_placed = λ g j k. still (get_or (list_at callers g) j 0) (w.known_placed g j k);
       on_stack = λ g e.
           elim (contains_cases f g below (w.on_stack g (mark_before marks f g Placed Open h (λ x. cc) e))) [
-            inl same ↦ let p : mark_of (set marks f Placed) g ≡ Placed = ap (mark_of (set marks f Placed)) (sym same) ∙ mark_same marks f Placed h in cc
-          | inr there ↦ there
+            | inl same ↦ let p : mark_of (set marks f Placed) g ≡ Placed = ap (mark_of (set marks f Placed)) (sym same) ∙ mark_same marks f Placed h in cc
+            | inr there ↦ there
           ];
       path = path_still callers marks below f Placed w.path.3 w.path.2;
     }
@@ -164,16 +164,16 @@ known_more callers marks known stack order f n w h within all =
       in_order = w.in_order;
       known_within = λ g.
           elim (same_or_not g f) [
-            inl same ↦ subst (λ (x : ℕ). get_or (set known f n) x 0 ≤ length (list_at callers x)) (sym same) (rw get_or-set_same within)
-          | inr other ↦ rw get_or-set_other (w.known_within g)
+            | inl same ↦ subst (λ (x : ℕ). get_or (set known f n) x 0 ≤ length (list_at callers x)) (sym same) (rw get_or-set_same within)
+            | inr other ↦ rw get_or-set_other (w.known_within g)
           ];
       known_placed = λ g j k.
           elim (same_or_not g f) [
-            inl same ↦
-              let lt : j < get_or (set known f n) f 0 = subst (λ (x : ℕ). j < get_or (set known f n) x 0) same k in
-              let e = get_or-set_same known f n 0 h in
-              subst (λ (x : ℕ). mark_of marks (get_or (list_at callers x) j 0) ≡ Placed) (sym same) (all j (omega arith))
-          | inr other ↦ let e = get_or-set_other known f g n 0 other in w.known_placed g j (omega arith)
+            | inl same ↦
+                let lt : j < get_or (set known f n) f 0 = subst (λ (x : ℕ). j < get_or (set known f n) x 0) same k in
+                let e = get_or-set_same known f n 0 h in
+                subst (λ (x : ℕ). mark_of marks (get_or (list_at callers x) j 0) ≡ Placed) (sym same) (all j (omega arith))
+            | inr other ↦ let e = get_or-set_other known f g n 0 other in w.known_placed g j (omega arith)
           ];
       on_stack = w.on_stack;
       path = w.path;
@@ -183,13 +183,13 @@ known_more callers marks known stack order f n w h within all =
 pub leads_down : (callers : List (List ℕ)) (marks : List Mark) (h f : ℕ) (below : List ℕ) (g : ℕ) → CallsTo callers h f → IsOpenPath callers marks (f ∷ below) → Contains (f ∷ below) g → (between : List ℕ) × AreCalledFrom (CallsTo callers) h (between ++ g ∷ [])
 leads_down callers marks h f [] g call path c =
     elim (contains_cases f g [] c) [
-      inl e ↦ ([], (subst (CallsTo callers h) e call, tt))
-    | inr d ↦ absurd (contains_none g d)
+      | inl e ↦ ([], (subst (CallsTo callers h) e call, tt))
+      | inr d ↦ absurd (contains_none g d)
     ]
 leads_down callers marks h f (e ∷ below) g call path c =
     elim (contains_cases f g (e ∷ below) c) [
-      inl same ↦ ([], (subst (CallsTo callers h) same call, tt))
-    | inr d ↦ let rest = leads_down callers marks f e below g path.1 path.3 d in (f ∷ rest.0, (call, rest.1))
+      | inl same ↦ ([], (subst (CallsTo callers h) same call, tt))
+      | inr d ↦ let rest = leads_down callers marks f e below g path.1 path.3 d in (f ∷ rest.0, (call, rest.1))
     ]
 
 pub steps_opened : (marks : List Mark) (f : ℕ) → mark_of marks f ≡ New → f < length marks → sum_by steps_of (set marks f Open) + 2 ≡ sum_by steps_of marks

@@ -1,5 +1,5 @@
 -- How far the walk is that puts functions behind their callers. The list at place f of `callers` has the functions that call f.
-use Rattle.std.specs.Prelude.{◌≡◌, ℕ, ◌+◌, ◌*◌, ◌<◌, ◌≤◌, ◌↔◌, List, [], ◌∷◌, ◌++◌, length, reverse, replicate, Contains, All, slice_set, slice_index, slice_index_or}
+use Rattle.std.specs.Prelude.{◌≡◌, ℕ, ◌+◌, ◌<◌, ◌≤◌, ◌↔◌, List, [], ◌∷◌, ◌++◌, length, reverse, replicate, Contains, slice_set, slice_index, slice_index_or}
 use Rattle.std.specs.List.{sum_by}
 use Rattle.cerco_base.specs.CallOrder.{Called, functions_of, callers_at, IsCallOrder}
 use Rattle.call_graph.specs.Nodes.{CallsTo}

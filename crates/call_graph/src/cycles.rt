@@ -56,11 +56,7 @@ fn is_on_cycle(alloc: Global, nodes: &[Node], function: u32) -> Result<bool, Ord
 }
 
 // The first function on a cycle of calls, of which one is known.
-pub(crate) fn first_on_cycle(
-    alloc: Global,
-    nodes: &[Node],
-    known: u32,
-) -> Result<u32, OrderFault>
+pub(crate) fn first_on_cycle(alloc: Global, nodes: &[Node], known: u32) -> Result<u32, OrderFault>
     requires nodes { AreNodes nodes.now }
     requires known { IsOnCycle (length nodes.now) (Calls (callees_of nodes.now)) known }
     ensures first { IfOk result (IsFirstOnCycle (length nodes.now) (Calls (callees_of nodes.now))) }

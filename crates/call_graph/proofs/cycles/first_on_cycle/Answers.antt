@@ -1,4 +1,4 @@
-use Rattle.std.proofs.Common.{arith, below_more, ℕ, ◌≡◌, true, false, length}
+use Rattle.std.proofs.Common.{arith, below_more, ℕ, length}
 use Rattle.call_graph.specs.CallPaths.{Calls, IsOnCycle}
 use Rattle.call_graph.specs.Nodes.{callees_of}
 use Rattle.call_graph.proofs.cycles.first_on_cycle.Goals as goal

@@ -32,4 +32,3 @@ returns-clause-cycle c =
     let zero : vec_len c.loop-from.search.work - 1 ≡ 0 = let e = c.in_default.ensures.cases.0 in omega arith in
     let none : c.loop-from.search.work.items ≡ [] = c.in_default.ensures.items ∙ ap (λ (xs : List ℕ). xs ++ []) (c.in_default.ensures.rest ∙ ap (λ n. take n c.loop-from.search.work.items) zero) in
     (λ e. cc, λ on. absurd (search_over _ _ _ _ _ c.loop-from.invariant none on))
-

@@ -1,6 +1,4 @@
-use Rattle.std.proofs.Common.{◌≡◌, ℕ, ◌<◌, ◌≤◌, ◌+◌, ◌^◌, List, length, get_or, sym, ap, ◌∙◌, arith, subst}
-use Rattle.std.specs.Prelude.{All, slice_index}
-use Rattle.cerco_base.specs.CallOrder.{callers_at}
+use Rattle.std.proofs.Common.{◌≤◌, length, get_or, ap, arith}
 use Rattle.call_graph.proofs.OrderPaths.{contains_standing, length-functions}
 use Rattle.call_graph.proofs.SumSteps.{callers_fit, callers_sized, sum_fits, sums_next, sums_before, sums_largest, max_is, at_place, largest_along}
 use Rattle.call_graph.proofs.sums.largest_sums.Goals as goal
@@ -51,4 +49,3 @@ pub returns-clause-largest : goal.returns-clause-largest
 returns-clause-largest c =
     let end : length c.args.order.now ≤ c.loop-i.i = let len = length-functions c.args.order.now in let same = ap length c.functions-functions.ensures.functions in let over = c.loop-i-test.false in omega arith in
     sums_largest c.args.order.now c.args.sizes.now c.loop-i.before.items c.loop-i.i c.loop-i.largest c.requires.functions c.loop-i.invariant end
-

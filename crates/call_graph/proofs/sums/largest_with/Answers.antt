@@ -1,4 +1,3 @@
-use Rattle.std.proofs.Common.{◌∙◌}
 use Rattle.std.proofs.lemmas.List.{take_more}
 use Rattle.call_graph.proofs.SumSteps.{with_push, max_is}
 use Rattle.call_graph.proofs.sums.largest_with.Goals as goal

@@ -1,4 +1,4 @@
-use Rattle.std.proofs.Common.{◌≡◌, ℕ, ◌<◌, List, length, sym, subst, ap, ◌∙◌, arith}
+use Rattle.std.proofs.Common.{ℕ, ◌<◌, List, length, sym, subst, ap, ◌∙◌}
 use Rattle.call_graph.specs.Nodes.{callees_of, callers_of, AreNodes}
 use Rattle.call_graph.specs.declared.nodes.Node.{Node}
 use Rattle.call_graph.proofs.Opposite.{connected, whole_slice}

@@ -1,5 +1,5 @@
-use Rattle.std.proofs.Common.{◌≡◌, ℕ, List, Err, length, subst, sym, ap, refl, ◌∙◌}
-use Rattle.std.specs.Prelude.{IfOk, OnOk}
+use Rattle.std.proofs.Common.{ℕ, List, Err, length, subst, sym, ap, ◌∙◌}
+use Rattle.std.specs.Prelude.{IfOk}
 use Rattle.std.proofs.lemmas.Result.{IfOk-weaker}
 use Rattle.call_graph.specs.CallPaths.{IsOnCycle, IsOrderOf}
 use Rattle.call_graph.specs.Nodes.{callees_of, callers_of, CallsTo, AreNodes}

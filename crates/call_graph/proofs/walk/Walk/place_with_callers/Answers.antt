@@ -1,5 +1,5 @@
-use Rattle.std.proofs.Common.{refl, arith, sym, ◌∙◌}
-use Rattle.call_graph.proofs.Turns.{first_opens, placed_at_rest, length-callers}
+use Rattle.std.proofs.Common.{refl, arith, ◌∙◌}
+use Rattle.call_graph.proofs.Turns.{first_opens, length-callers}
 use Rattle.call_graph.proofs.WalkSteps.{mark_read}
 use Rattle.call_graph.proofs.walk.Walk.place_with_callers.Goals as goal
 

@@ -1,4 +1,3 @@
-use Rattle.std.proofs.Common.{◌≡◌, ℕ}
 use Rattle.call_graph.specs.Nodes.{callers_of}
 use Rattle.call_graph.specs.Walks.{IsUnderWay, steps_left}
 use Rattle.call_graph.proofs.walk.Walk.place_with_callers.Given as goal

@@ -70,5 +70,5 @@ returns-in_default-clause-cycle c =
     let missing = subst (λ (ms : List Mark). mark_of ms (get_or c.as_slice-callers.result.now c.first_missing-at.result 0) ≡ Placed → ⊥) c.deref.ensures.value (c.first_missing-at.ensures.missing within) in
     let is = is_open (mark_of c.args.self.now.marks.items (get_or c.as_slice-callers.result.now c.first_missing-at.result 0)) missing (λ e. c.in_default.not-New (sym same ∙ e)) in
     λ f e.
-      let here : get_or c.as_slice-callers.result.now c.first_missing-at.result 0 ≡ f = cc in
-      subst (IsOnCycle (length c.args.nodes.now) (CallsTo (callers_of c.args.nodes.now))) here (turn_cycles _ _ _ _ _ _ at within is)
+    let here : get_or c.as_slice-callers.result.now c.first_missing-at.result 0 ≡ f = cc in
+    subst (IsOnCycle (length c.args.nodes.now) (CallsTo (callers_of c.args.nodes.now))) here (turn_cycles _ _ _ _ _ _ at within is)
