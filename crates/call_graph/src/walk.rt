@@ -21,8 +21,8 @@ enum Mark {
     Placed,
 }
 
-// Of each function its mark, and how many of its callers are known to be in the order. Each
-// function on the stack is called by the one above it.
+// Of each function its mark, and how many of its callers, from the first on, are known to be in the
+// order. Each function on the stack is called by the one above it.
 #[derive(Drop)]
 struct Walk {
     marks: Vec<Mark>,
@@ -106,7 +106,7 @@ impl Walk {
         }
     }
 
-    // Puts a function and those behind it into the order, callers first.
+    // Puts a function and those that lead to it into the order, callers first.
     fn place_with_callers(&mut self, nodes: &[Node], function: u32) -> Result<(), OrderFault>
         requires nodes { AreNodes nodes.now }
         requires walk { IsWalkOf (callers_of nodes.now) self.old }
