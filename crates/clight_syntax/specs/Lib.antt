@@ -1,6 +1,7 @@
 pub mod Annotations
 pub mod Depth
 pub mod Erasure
+pub mod Labelling
 pub mod Numbers
 pub mod Spelling
 pub mod Trees
