@@ -1,10 +1,10 @@
 //! The annotated text of a source: the source with the C text that makes it count its own cost.
 #![tactic(auto)]
 
-ghost use Rattle.std.specs.Prelude.{◌≡◌, ◌++◌, length, decimal};
+ghost use Rattle.std.specs.Prelude.{◌≡◌, ◌++◌, length, decimal, codes};
 ghost use Rattle.std.specs.List.{flat_map};
 ghost use Rattle.cerco_base.specs.Calls.{PutsText};
-ghost use Rattle.clight_syntax.specs.Annotations.{annotated, piece_text, AreInOrder, HasLabelsBelow, HaveLabelsBelow, numbers_of};
+ghost use Rattle.clight_syntax.specs.Annotations.{annotated, around, piece_text, AreInOrder, HasLabelsBelow, HaveLabelsBelow, numbers_of};
 ghost use Rattle.clight_syntax.specs.Erasure.{erased, HasNoMarker};
 ghost use Rattle.clight_syntax.specs.Numbers.{numbers};
 
@@ -28,6 +28,15 @@ fn put_number<O: Sink>(
     put_all(out, behind)
 }
 
+// Puts the annotation behind the left operand of `&&` or `||`, with the costs where it is true and where it is false.
+fn put_both<O: Sink>(on_true: u32, on_false: u32, out: &mut O) -> Result<(), IoFault>
+    ensures { PutsText (O.state out.old) (O.state out.new)
+        (around (codes "/*@*/)?(__cost+=") on_true (around (codes ",1):(__cost+=") on_false (codes ",0))/*@*/"))) result }
+{
+    put_number(b"/*@*/)?(__cost+=", on_true, b",1):(__cost+=", out)?;
+    put_number(b"", on_false, b",0))/*@*/", out)
+}
+
 // Puts an annotation.
 fn put_piece<O: Sink>(piece: Piece, start: u32, costs: &[u32], out: &mut O) -> Result<(), IoFault>
     requires { HasLabelsBelow (length costs.now) piece }
@@ -36,8 +45,21 @@ fn put_piece<O: Sink>(piece: Piece, start: u32, costs: &[u32], out: &mut O) -> R
 {
     match piece {
         Piece::Start => put_number(b"/*@*/unsigned long __cost=", start, b";/*@*/", out),
-        Piece::After(label) => {
-            put_number(b"/*@*/__cost+=", costs[label.0 as usize], b";/*@*/", out)
+        Piece::After(label) => put_number(b"/*@*/__cost+=", costs[label.0 as usize], b";/*@*/", out),
+        Piece::ArmOpen(label) => put_number(b"/*@*/{__cost+=", costs[label.0 as usize], b";/*@*/", out),
+        Piece::ArmClose => put_all(out, b"/*@*/}/*@*/"),
+        Piece::ThenClose(label) => {
+            put_number(b"/*@*/}else{__cost+=", costs[label.0 as usize], b";}/*@*/", out)
+        }
+        Piece::BodyClose(label) => put_number(b"/*@*/}__cost+=", costs[label.0 as usize], b";/*@*/", out),
+        Piece::DoOpen => put_all(out, b"/*@*/{/*@*/"),
+        Piece::DoClose => put_all(out, b"/*@*/}/*@*/"),
+        Piece::CondOpen => put_all(out, b"/*@*/((/*@*/"),
+        Piece::CondBoth(on_true, on_false) => {
+            put_both(costs[on_true.0 as usize], costs[on_false.0 as usize], out)
+        },
+        Piece::CondRepeat(label) => {
+            put_number(b"/*@*/)?(__cost+=", costs[label.0 as usize], b",1):0)/*@*/", out)
         }
     }
 }

@@ -2,4 +2,8 @@ pub mod Depths
 pub mod Cutting
 pub mod DecimalTexts
 pub mod AnnotatedText
+pub mod TypedRows
 pub mod Examples
+pub mod PointsInOrder
+pub mod LabelsDetermined
+pub mod LabelledExamples

@@ -76,9 +76,13 @@ labels_of (CondRepeat label) = label ∷ []
 abbrev pub labels_in : List Point → List Label
 labels_in points = flat_map (λ (point : Point). labels_of point.piece) points
 
+-- the labels have this number and those behind it, one after the other
+abbrev pub AreNumberedFrom : ℕ → List Label → Type 0
+AreNumberedFrom number labels = map (λ (label : Label). label.0) labels ≡ range_with_len number (length labels)
+
 -- the labels have the numbers 0, 1, 2 and so on
 abbrev pub AreNumberedInOrder : List Label → Type 0
-AreNumberedInOrder labels = map (λ (label : Label). label.0) labels ≡ range_with_len 0 (length labels)
+AreNumberedInOrder labels = AreNumberedFrom 0 labels
 
 -- each label is below a number
 abbrev pub AreLabelsBelow : ℕ → List Label → Type 0

@@ -6,6 +6,7 @@ pub mod Numbers
 pub mod Spelling
 pub mod Trees
 pub mod Types
+pub mod TypedSpans
 pub mod TypedTrees
 pub mod TypedViews
 pub mod Views
