@@ -1,17 +1,17 @@
 -- What an annotated text is: the text without its annotations is the source again, and the numbers
 -- are those of the annotations. Both for every list of points in the order of the text.
-use Rattle.std.proofs.Common.{◌≡◌, ℕ, zero, suc, add-one, ◌+◌, ◌-◌, ◌^◌, ◌<◌, ◌≤◌, false, List, [], ◌∷◌, ◌++◌, length, map, take, drop, slice_index, All, decimal, codes, refl, sym, ap, ◌∙◌, inl, inr, append_assoc, append-nil, take-append-drop, take_at, drop_at, drop-drop, take-add, ap₂, lit<, arith}
+use Rattle.std.proofs.Common.{◌≡◌, ℕ, zero, suc, add-one, ◌+◌, ◌-◌, ◌^◌, ◌<◌, ◌≤◌, false, List, [], ◌∷◌, ◌++◌, length, map, take, drop, slice_index, All, decimal, codes, refl, sym, ap, ◌∙◌, inl, inr, append_assoc, append-nil, subst, take-append-drop, take_at, drop_at, drop-drop, take-add, ap₂, lit<, arith}
 use Rattle.std.specs.List.{flat_map, list_any, concat, range_with_len}
 use Rattle.std.proofs.Math.Seq.{take-length, drop-cons}
 use Rattle.std.specs.Prelude.{nat_eq}
 use Rattle.std.proofs.lemmas.Bool.{cases_lt, or_from}
-use Rattle.std.proofs.lemmas.List.{get_or_past, length-take-le}
+use Rattle.std.proofs.lemmas.List.{get_or_past, length-take-le, map-append}
 use Rattle.std.proofs.lemmas.List.Folds.{list_any-append}
 use Rattle.clight_syntax.specs.declared.points.Piece.{Piece}
 use Rattle.cerco_base.specs.declared.events.Label.{Label}
 use Rattle.clight_syntax.specs.declared.points.Piece.TheVariants.{Start, After, ArmOpen, ArmClose, ThenClose, BodyClose, DoOpen, DoClose, CondOpen, CondBoth, CondRepeat}
 use Rattle.clight_syntax.specs.declared.points.Point.{Point}
-use Rattle.clight_syntax.specs.Annotations.{Costs, cost_of, around, inner_text, piece_text, with_text_at, annotated, AreInOrderFrom, AreInOrder, labels_of, labels_in, AreNumberedInOrder, AreLabelsBelow, HasLabelsBelow, HaveLabelsBelow, numbers_of}
+use Rattle.clight_syntax.specs.Annotations.{Costs, cost_of, around, inner_text, piece_text, with_text_at, annotated, AreInOrderFrom, AreInOrder, labels_of, labels_in, AreNumberedFrom, AreNumberedInOrder, AreLabelsBelow, HaveLabelsBelow, numbers_of, IsNoStart, HaveNoStart, BeginWithStart}
 use Rattle.clight_syntax.specs.Erasure.{parts, even_parts, odd_parts, erased, HasNoMarker}
 use Rattle.clight_syntax.specs.Numbers.{numbers_in, numbers}
 use Rattle.clight_syntax.proofs.Cutting.{cut-annotated, cut-plain_alone, even_parts-cons, HasNoMarker-drop, HasNoMarker-take}
@@ -157,3 +157,65 @@ all_costs costs labels order same =
     ∙ costs_in_order costs.labels 0 (length labels) (omega arith)
     ∙ ap (λ n. take n costs.labels) same
     ∙ take-length costs.labels
+
+-- ---- the numbers of a text whose annotations begin with the start's and name labels numbered in order
+
+numbers_of-labels : (costs : Costs) (piece : Piece) → IsNoStart piece → numbers_of costs piece ≡ map (cost_of costs) (labels_of piece)
+numbers_of-labels costs Start h = absurd h
+numbers_of-labels costs (After label) h = refl
+numbers_of-labels costs (ArmOpen label) h = refl
+numbers_of-labels costs ArmClose h = refl
+numbers_of-labels costs (ThenClose label) h = refl
+numbers_of-labels costs (BodyClose label) h = refl
+numbers_of-labels costs DoOpen h = refl
+numbers_of-labels costs DoClose h = refl
+numbers_of-labels costs CondOpen h = refl
+numbers_of-labels costs (CondBoth on_true on_false) h = refl
+numbers_of-labels costs (CondRepeat label) h = refl
+
+numbers_of-all : (costs : Costs) (points : List Point) → HaveNoStart points → flat_map (λ (point : Point). numbers_of costs point.piece) points ≡ map (cost_of costs) (labels_in points)
+numbers_of-all costs [] h = refl
+numbers_of-all costs (point ∷ points) h =
+    ap₂ (λ s t. s ++ t) (numbers_of-labels costs point.piece h.0) (numbers_of-all costs points h.1)
+    ∙ sym (map-append (cost_of costs) (labels_of point.piece) (labels_in points))
+
+numbers_of-planned : (costs : Costs) (points : List Point) → BeginWithStart points → AreNumberedInOrder (labels_in points) → length (labels_in points) ≡ length costs.labels → flat_map (λ (point : Point). numbers_of costs point.piece) points ≡ costs.start ∷ costs.labels
+numbers_of-planned costs [] h order same = absurd h
+numbers_of-planned costs (point ∷ points) h order same =
+    let first : labels_in (point ∷ points) ≡ labels_in points = ap (λ piece. labels_of piece ++ labels_in points) h.0 in
+    let Numbered : List Label → Type 0 = λ labels. AreNumberedInOrder labels in
+    ap (λ piece. numbers_of costs piece ++ flat_map (λ (p : Point). numbers_of costs p.piece) points) h.0
+    ∙ ap (λ ns. costs.start ∷ ns) (numbers_of-all costs points h.1 ∙ all_costs costs (labels_in points) (subst Numbered first order) (ap length (sym first) ∙ same))
+
+-- the numbers are the cost of the start, and the costs of the labels in their order
+pub numbers-planned : (text : List ℕ) (points : List Point) (costs : Costs) → HasNoMarker text → AreInOrder (length text) points → AreCostsBelow (2 ^ 64) costs → BeginWithStart points → AreNumberedInOrder (labels_in points) → length (labels_in points) ≡ length costs.labels → numbers (annotated text points costs) ≡ costs.start ∷ costs.labels
+numbers-planned text points costs plain order below begins numbered same =
+    numbers-annotated text points costs plain order below ∙ numbers_of-planned costs points begins numbered same
+
+-- ---- labels that are numbered in order are below their number
+
+numbered_below : (from count : ℕ) (labels : List Label) → AreNumberedFrom from labels → from + length labels ≤ count → AreLabelsBelow count labels
+numbered_below from count [] e h = tt
+numbered_below from count (label ∷ labels) e h =
+    let first : label.0 ≡ from = cc in
+    let rest : AreNumberedFrom (from + 1) labels = cc in
+    let within : from + suc (length labels) ≤ count = h in
+    (omega arith, numbered_below (from + 1) count labels rest (omega arith))
+
+front_below : (count : ℕ) (labels more : List Label) → AreLabelsBelow count (labels ++ more) → AreLabelsBelow count labels
+front_below count [] more h = tt
+front_below count (label ∷ labels) more h = (h.0, front_below count labels more h.1)
+
+behind_below : (count : ℕ) (labels more : List Label) → AreLabelsBelow count (labels ++ more) → AreLabelsBelow count more
+behind_below count [] more h = h
+behind_below count (label ∷ labels) more h = behind_below count labels more h.1
+
+points_below : (count : ℕ) (points : List Point) → AreLabelsBelow count (labels_in points) → HaveLabelsBelow count points
+points_below count [] h k d within = absurd (omega arith)
+points_below count (point ∷ points) h zero d within = front_below count (labels_of point.piece) (labels_in points) h
+points_below count (point ∷ points) h (suc k) d within =
+    let past : suc k < suc (length points) = within in
+    points_below count points (behind_below count (labels_of point.piece) (labels_in points) h) k d (omega arith)
+
+pub labels_below : (count : ℕ) (points : List Point) → AreNumberedInOrder (labels_in points) → length (labels_in points) ≤ count → HaveLabelsBelow count points
+labels_below count points order within = points_below count points (numbered_below 0 count (labels_in points) order (omega arith))

@@ -1,6 +1,6 @@
 -- Labelled programs written by hand, with their annotated texts written by hand. The declarations have no annotations and are left
 -- out of the trees. The start costs 4 cycles, and the label with number n costs 100 + n.
-use Rattle.std.proofs.Common.{◌≡◌, ℕ, ◌+◌, false, List, [], ◌∷◌, Some, None, Option, codes, map, refl}
+use Rattle.std.proofs.Common.{◌≡◌, ℕ, false, [], ◌∷◌, Some, None, Option, codes, refl}
 use Rattle.std.specs.Fmt.{digits}
 use Rattle.std.specs.List.{range_with_len}
 use Rattle.cerco_base.specs.declared.events.Label.{Label}
@@ -12,7 +12,7 @@ use Rattle.clight_syntax.specs.declared.tree.Specifiers.TheVariants as w
 use Rattle.clight_syntax.specs.Trees.{NoParameters}
 use Rattle.clight_syntax.specs.Types.{CType, Integer, Void, One}
 use Rattle.clight_syntax.specs.TypedTrees.{Variable, Number, Cond, Truth, InParentheses, Not, Both, Either, Assignment, Test, NoArguments, Call, ForHead, Empty, Block, Assign, ReadPort, WritePort, CallOf, If, IfElse, While, Do, For, Break, Continue, Return, Stmts, NoStmts, Then, TypedProgram}
-use Rattle.clight_syntax.specs.Annotations.{Costs, annotated, labels_in, AreNumberedInOrder}
+use Rattle.clight_syntax.specs.Annotations.{Costs, annotated}
 use Rattle.clight_syntax.specs.Labelling.{points_of, without_labels, IsLabelled}
 
 abbrev at : ℕ → ℕ → Span

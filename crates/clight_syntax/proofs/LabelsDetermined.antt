@@ -1,6 +1,6 @@
 -- A program has one labelled program: its labels are determined by their order.
-use Rattle.std.proofs.Common.{◌≡◌, ℕ, zero, suc, ◌+◌, List, [], ◌∷◌, ◌++◌, Option, Some, None, length, map, refl, sym, ap, ◌∙◌, append_assoc, append-nil, subst}
-use Rattle.std.specs.List.{flat_map, range_with_len}
+use Rattle.std.proofs.Common.{◌≡◌, ℕ, ◌+◌, List, [], ◌∷◌, ◌++◌, Option, Some, None, option_map, map, refl, sym, ap, ap₂, ◌∙◌, append_assoc, append-nil, subst}
+use Rattle.std.specs.List.{flat_map}
 use Rattle.std.proofs.lemmas.Grind.{flat_map-append}
 use Rattle.cerco_base.specs.declared.events.Label.{Label}
 use Rattle.clight_syntax.specs.declared.points.Piece.{Piece}
@@ -8,7 +8,7 @@ use Rattle.clight_syntax.specs.declared.points.Piece.TheVariants.{After, ArmOpen
 use Rattle.clight_syntax.specs.declared.points.Point.{Point}
 use Rattle.clight_syntax.specs.TypedTrees.{Cond, Truth, InParentheses, Not, Both, Either, Test, ForHead, Stmt, Empty, Block, Assign, ReadPort, WritePort, CallOf, If, IfElse, While, Do, For, Break, Continue, Return, Stmts, NoStmts, Then, Function, TypedProgram}
 use Rattle.clight_syntax.specs.Annotations.{labels_of, labels_in, AreNumberedFrom}
-use Rattle.clight_syntax.specs.Labelling.{cond_without, test_without, head_without, stmt_without, stmts_without, function_without, without_labels, cond_from, cond_to, stmt_from, stmt_to, point, between, arm_points, only_arm_points, body_points, cond_points, head_points, stmt_points, stmts_points, function_points, points_of, IsLabelled}
+use Rattle.clight_syntax.specs.Labelling.{cond_without, test_without, head_without, stmt_without, stmts_without, function_without, cond_from, cond_to, stmt_from, stmt_to, point, between, arm_points, only_arm_points, body_points, cond_points, head_points, stmt_points, stmts_points, function_points, IsLabelled}
 
 -- ---- the labels of a part, before those of what follows it
 
@@ -210,3 +210,120 @@ functions_numbered (f ∷ fs) n =
 abbrev pub labelled_from : TypedProgram (Unit {0}) → TypedProgram Label
 labelled_from x =
     record { names = x.names; items = x.items; span = x.span; structs = x.structs; variables = x.variables; functions = functions_numbered x.functions 0; main = x.main; frames = x.frames; data_bytes = x.data_bytes }
+
+-- ---- a tree whose labels follow on each other is that one
+
+-- the labels have a number and those behind it
+abbrev AreNext : ℕ → List Label → Type 0
+AreNext n [] = Unit {0}
+AreNext n (l ∷ ls) = (l.0 ≡ n) × AreNext (n + 1) ls
+
+are_next : (n : ℕ) (ls : List Label) → AreNumberedFrom n ls → AreNext n ls
+are_next n [] e = tt
+are_next n (l ∷ ls) e =
+    let first : l.0 ≡ n = cc in
+    let rest : AreNumberedFrom (n + 1) ls = cc in
+    (first, are_next (n + 1) ls rest)
+
+label_is : (l : Label) (n : ℕ) → l.0 ≡ n → label n ≡ l
+label_is l n e = ap label (sym e)
+
+-- a part is the numbered one, and the labels behind it follow on
+record Agrees {A : Type 0} (numbered : Numbered A) (tree : A) (more : List Label) : Type 0 where
+  same : numbered.tree ≡ tree
+  behind : AreNext numbered.next more
+
+cond_agrees : (c : Cond Label) (n : ℕ) (more : List Label) → AreNext n (cond_labels c more) → Agrees (cond_numbered (cond_without c) n) c more
+cond_agrees (Truth e) n more h = record { same = refl; behind = h }
+cond_agrees (InParentheses left c right) n more h =
+    let x = cond_agrees c n more h in record { same = ap (λ t. InParentheses left t right) x.same; behind = x.behind }
+cond_agrees (Not at c) n more h =
+    let x = cond_agrees c n more h in record { same = ap (λ t. Not at t) x.same; behind = x.behind }
+cond_agrees (Both l at on_true on_false r) n more h =
+    let x = cond_agrees l n (on_true ∷ on_false ∷ cond_labels r more) h in
+    let y = cond_agrees r _ more x.behind.1.1 in
+    let a = x.same in let b = label_is on_true _ x.behind.0 in let c = label_is on_false _ x.behind.1.0 in let d = y.same in
+    record { same = cc; behind = y.behind }
+cond_agrees (Either l at on_true on_false r) n more h =
+    let x = cond_agrees l n (on_true ∷ on_false ∷ cond_labels r more) h in
+    let y = cond_agrees r _ more x.behind.1.1 in
+    let a = x.same in let b = label_is on_true _ x.behind.0 in let c = label_is on_false _ x.behind.1.0 in let d = y.same in
+    record { same = cc; behind = y.behind }
+
+optional_agrees : (c : Option (Cond Label)) (n : ℕ) (more : List Label) → AreNext n (head_labels c more) → Agrees (optional_numbered (option_map cond_without c) n) c more
+optional_agrees None n more h = record { same = refl; behind = h }
+optional_agrees (Some c) n more h = let x = cond_agrees c n more h in record { same = ap (λ t. Some t) x.same; behind = x.behind }
+
+test_same : (test : Test Label) (c : Cond Label) → c ≡ test.condition → test_with (test_without test) c ≡ test
+test_same test c e = ap (test_with (test_without test)) e
+
+head_same : (head : ForHead Label) (c : Option (Cond Label)) → c ≡ head.condition → head_with (head_without head) c ≡ head
+head_same head c e = ap (head_with (head_without head)) e
+
+mutual
+  stmt_agrees : (x : Stmt Label) (n : ℕ) (more : List Label) → AreNext n (stmt_labels x more) → Agrees (stmt_numbered (stmt_without x) n) x more
+  stmt_agrees (Empty semicolon) n more h = record { same = refl; behind = h }
+  stmt_agrees (Block left body right) n more h =
+      let x = stmts_agree body n more h in record { same = ap (λ t. Block left t right) x.same; behind = x.behind }
+  stmt_agrees (Assign x semicolon) n more h = record { same = refl; behind = h }
+  stmt_agrees (ReadPort target equals port semicolon) n more h = record { same = refl; behind = h }
+  stmt_agrees (WritePort port equals value semicolon) n more h = record { same = refl; behind = h }
+  stmt_agrees (CallOf call semicolon back) n more h = record { same = ap (λ l. CallOf call semicolon l) (label_is back n h.0); behind = h.1 }
+  stmt_agrees (If test one arm other) n more h =
+      let c = cond_agrees test.condition n (one ∷ stmt_labels arm (other ∷ more)) h in
+      let x = stmt_agrees arm _ (other ∷ more) c.behind.1 in
+      let t = test_same test _ c.same in let a = label_is one _ c.behind.0 in let b = x.same in let d = label_is other _ x.behind.0 in
+      record { same = cc; behind = x.behind.1 }
+  stmt_agrees (IfElse test one arm else other otherwise) n more h =
+      let c = cond_agrees test.condition n (one ∷ stmt_labels arm (other ∷ stmt_labels otherwise more)) h in
+      let x = stmt_agrees arm _ (other ∷ stmt_labels otherwise more) c.behind.1 in
+      let y = stmt_agrees otherwise _ more x.behind.1 in
+      let t = test_same test _ c.same in let a = label_is one _ c.behind.0 in let b = x.same in let d = label_is other _ x.behind.0 in let e = y.same in
+      record { same = cc; behind = y.behind }
+  stmt_agrees (While test turn body after) n more h =
+      let c = cond_agrees test.condition n (turn ∷ stmt_labels body (after ∷ more)) h in
+      let x = stmt_agrees body _ (after ∷ more) c.behind.1 in
+      let t = test_same test _ c.same in let a = label_is turn _ c.behind.0 in let b = x.same in let d = label_is after _ x.behind.0 in
+      record { same = cc; behind = x.behind.1 }
+  stmt_agrees (Do keyword body test again semicolon after) n more h =
+      let x = stmt_agrees body n (cond_labels test.condition (again ∷ after ∷ more)) h in
+      let c = cond_agrees test.condition _ (again ∷ after ∷ more) x.behind in
+      let t = test_same test _ c.same in let a = label_is again _ c.behind.0 in let b = x.same in let d = label_is after _ c.behind.1.0 in
+      record { same = cc; behind = c.behind.1.1 }
+  stmt_agrees (For head turn body after) n more h =
+      let c = optional_agrees head.condition n (turn ∷ stmt_labels body (after ∷ more)) h in
+      let x = stmt_agrees body _ (after ∷ more) c.behind.1 in
+      let t = head_same head _ c.same in let a = label_is turn _ c.behind.0 in let b = x.same in let d = label_is after _ x.behind.0 in
+      record { same = cc; behind = x.behind.1 }
+  stmt_agrees (Break keyword semicolon) n more h = record { same = refl; behind = h }
+  stmt_agrees (Continue keyword semicolon) n more h = record { same = refl; behind = h }
+  stmt_agrees (Return keyword value semicolon) n more h = record { same = refl; behind = h }
+
+  stmts_agree : (xs : Stmts Label) (n : ℕ) (more : List Label) → AreNext n (stmts_labels xs more) → Agrees (stmts_numbered (stmts_without xs) n) xs more
+  stmts_agree NoStmts n more h = record { same = refl; behind = h }
+  stmts_agree (Then earlier last) n more h =
+      let xs = stmts_agree earlier n (stmt_labels last more) h in
+      let x = stmt_agrees last _ more xs.behind in
+      let a = xs.same in let b = x.same in
+      record { same = cc; behind = x.behind }
+
+functions_agree : (fs : List (Function Label)) (n : ℕ) → AreNext n (functions_labels fs []) → functions_numbered (map function_without fs) n ≡ fs
+functions_agree [] n h = refl
+functions_agree (f ∷ fs) n h =
+    let x = stmts_agree f.body (n + 1) (functions_labels fs []) h.1 in
+    let a = x.same in let b = label_is f.label n h.0 in let c = functions_agree fs _ x.behind in
+    ap₂ (λ g gs. g ∷ gs) (ap₂ (function_with (function_without f)) b a) c
+
+-- ---- the law
+
+-- the labelled program of a typed one
+pub labelled_is : (typed : TypedProgram (Unit {0})) (labelled : TypedProgram Label) → IsLabelled typed labelled → labelled ≡ labelled_from typed
+labelled_is typed labelled is =
+    let Numbers : List Label → Type 0 = λ labels. AreNumberedFrom 0 labels in
+    let numbered = subst Numbers (sym (append-nil (labels_in (flat_map function_points labelled.functions))) ∙ functions_names labelled.functions []) is.numbered in
+    let functions = functions_agree labelled.functions 0 (are_next 0 _ numbered) in
+    ap (λ fs. record labelled { functions = fs }) (sym functions) ∙ ap labelled_from is.typed_alone
+
+-- two labelled programs of one typed program are the same
+pub labelled_once : (typed : TypedProgram (Unit {0})) (one other : TypedProgram Label) → IsLabelled typed one → IsLabelled typed other → one ≡ other
+labelled_once typed one other a b = labelled_is typed one a ∙ sym (labelled_is typed other b)

@@ -7,3 +7,4 @@ pub mod Examples
 pub mod PointsInOrder
 pub mod LabelsDetermined
 pub mod LabelledExamples
+pub mod PointsBegin

@@ -1,5 +1,5 @@
 -- The annotations of a program stand in the order of its text where its tokens do.
-use Rattle.std.proofs.Common.{◌≡◌, ℕ, ◌+◌, ◌≤◌, List, [], ◌∷◌, ◌++◌, Option, Some, None, arith}
+use Rattle.std.proofs.Common.{◌≡◌, ℕ, ◌≤◌, List, [], ◌∷◌, ◌++◌, Option, Some, None, option_map, map, refl, sym, ap, ap₂, ◌∙◌, subst, arith}
 use Rattle.std.specs.List.{flat_map}
 use Rattle.cerco_base.specs.declared.events.Label.{Label}
 use Rattle.clight_syntax.specs.declared.span.Span.{Span}
@@ -10,8 +10,7 @@ use Rattle.clight_syntax.specs.declared.typed.ResultTarget.{ResultTarget}
 use Rattle.clight_syntax.specs.TypedTrees.{Expr, Variable, Number, Parenthesis, Binary, Prefix, Cast, Index, Select, Cond, Truth, InParentheses, Not, Both, Either, Test, Call, ForHead, Stmt, Empty, Block, Assign, ReadPort, WritePort, CallOf, If, IfElse, While, Do, For, Break, Continue, Return, Stmts, NoStmts, Then, Function, TypedProgram}
 use Rattle.clight_syntax.specs.TypedSpans.{words_spans, expr_spans, cond_spans, assignment_spans, optional_spans, test_spans, arguments_spans, target_spans, call_spans, head_spans, stmt_spans, stmts_spans, body_spans, code_spans, AreAscending}
 use Rattle.clight_syntax.specs.Annotations.{AreInOrderFrom, AreInOrder}
-use Rattle.clight_syntax.specs.Labelling.{expr_from, expr_to, cond_from, cond_to, target_from, stmt_from, stmt_to, point, between, arm_points, only_arm_points, body_points, cond_points, head_points, stmt_points, stmts_points, function_points, points_of}
-use Rattle.clight_syntax.proofs.AnnotatedText.{within_size}
+use Rattle.clight_syntax.specs.Labelling.{cond_without, test_without, head_without, stmt_without, stmts_without, function_without, without_labels, expr_from, expr_to, cond_from, cond_to, target_from, stmt_from, stmt_to, point, between, arm_points, only_arm_points, body_points, cond_points, head_points, stmt_points, stmts_points, function_points, points_of}
 
 -- ---- places one behind the other
 
@@ -306,3 +305,57 @@ functions_placed (f ∷ fs) low high h =
 -- where the tokens of the functions' bodies stand one behind the other in a text of this size, the annotations stand in its order
 pub points_in_order : (p : TypedProgram Label) (size : ℕ) → AreAscending 0 (code_spans p) size → AreInOrder size (points_of p)
 points_in_order p size h = (omega arith, functions_placed p.functions 0 size h)
+
+-- ---- the tokens of a program stand where they stood before it got labels
+
+cond_spans-without : (c : Cond Label) → cond_spans (cond_without c) ≡ cond_spans c
+cond_spans-without (Truth e) = refl
+cond_spans-without (InParentheses left c right) = ap (λ spans. left ∷ (spans ++ right ∷ [])) (cond_spans-without c)
+cond_spans-without (Not at c) = ap (λ spans. at ∷ spans) (cond_spans-without c)
+cond_spans-without (Both l at on_true on_false r) = ap₂ (λ s t. s ++ (at ∷ t)) (cond_spans-without l) (cond_spans-without r)
+cond_spans-without (Either l at on_true on_false r) = ap₂ (λ s t. s ++ (at ∷ t)) (cond_spans-without l) (cond_spans-without r)
+
+test_spans-without : (x : Test Label) → test_spans (test_without x) ≡ test_spans x
+test_spans-without x = ap (λ spans. x.keyword ∷ (x.left ∷ (spans ++ x.right ∷ []))) (cond_spans-without x.condition)
+
+optional_spans-without : (c : Option (Cond Label)) → optional_spans cond_spans (option_map cond_without c) ≡ optional_spans cond_spans c
+optional_spans-without None = refl
+optional_spans-without (Some c) = cond_spans-without c
+
+head_spans-without : (x : ForHead Label) → head_spans (head_without x) ≡ head_spans x
+head_spans-without x =
+    ap (λ spans. x.keyword ∷ (x.left ∷ (optional_spans assignment_spans x.first ++ (x.first_semicolon
+    ∷ (spans ++ (x.second_semicolon ∷ (optional_spans assignment_spans x.step ++ x.right ∷ []))))))) (optional_spans-without x.condition)
+
+mutual
+  stmt_spans-without : (x : Stmt Label) → stmt_spans (stmt_without x) ≡ stmt_spans x
+  stmt_spans-without (Empty semicolon) = refl
+  stmt_spans-without (Block left body right) = ap (λ spans. left ∷ (spans ++ right ∷ [])) (stmts_spans-without body)
+  stmt_spans-without (Assign x semicolon) = refl
+  stmt_spans-without (ReadPort target equals port semicolon) = refl
+  stmt_spans-without (WritePort port equals value semicolon) = refl
+  stmt_spans-without (CallOf call semicolon back) = refl
+  stmt_spans-without (If test one arm other) = ap₂ (λ s t. s ++ t) (test_spans-without test) (stmt_spans-without arm)
+  stmt_spans-without (IfElse test one arm else other otherwise) =
+      ap₂ (λ s t. s ++ t) (test_spans-without test) (ap₂ (λ s t. s ++ (else ∷ t)) (stmt_spans-without arm) (stmt_spans-without otherwise))
+  stmt_spans-without (While test turn body after) = ap₂ (λ s t. s ++ t) (test_spans-without test) (stmt_spans-without body)
+  stmt_spans-without (Do keyword body test again semicolon after) =
+      ap₂ (λ s t. keyword ∷ (s ++ (t ++ semicolon ∷ []))) (stmt_spans-without body) (test_spans-without test)
+  stmt_spans-without (For head turn body after) = ap₂ (λ s t. s ++ t) (head_spans-without head) (stmt_spans-without body)
+  stmt_spans-without (Break keyword semicolon) = refl
+  stmt_spans-without (Continue keyword semicolon) = refl
+  stmt_spans-without (Return keyword value semicolon) = refl
+
+  stmts_spans-without : (xs : Stmts Label) → stmts_spans (stmts_without xs) ≡ stmts_spans xs
+  stmts_spans-without NoStmts = refl
+  stmts_spans-without (Then earlier last) = ap₂ (λ s t. s ++ t) (stmts_spans-without earlier) (stmt_spans-without last)
+
+functions_spans-without : (fs : List (Function Label)) → flat_map body_spans (map function_without fs) ≡ flat_map body_spans fs
+functions_spans-without [] = refl
+functions_spans-without (f ∷ fs) = ap₂ (λ s t. (f.left ∷ (s ++ f.right ∷ [])) ++ t) (stmts_spans-without f.body) (functions_spans-without fs)
+
+-- where the tokens of a typed program stand one behind the other, so do the annotations of its labelled program
+pub labelled_in_order : (typed : TypedProgram (Unit {0})) (labelled : TypedProgram Label) (size : ℕ) → without_labels labelled ≡ typed → AreAscending 0 (code_spans typed) size → AreInOrder size (points_of labelled)
+labelled_in_order typed labelled size alone h =
+    let Ascending : List Span → Type 0 = λ spans. AreAscending 0 spans size in
+    points_in_order labelled size (subst Ascending (ap code_spans (sym alone) ∙ functions_spans-without labelled.functions) h)

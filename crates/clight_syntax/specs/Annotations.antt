@@ -101,3 +101,18 @@ HaveLabelsBelow count points = All (λ point. HasLabelsBelow count point.piece) 
 abbrev pub numbers_of : Costs → Piece → List ℕ
 numbers_of costs Start = costs.start ∷ []
 numbers_of costs piece = map (cost_of costs) (labels_of piece)
+
+-- the annotation doesn't declare the cost variable
+abbrev pub IsNoStart : Piece → Type 0
+IsNoStart Start = ⊥
+IsNoStart piece = Unit {0}
+
+-- none of the annotations declares the cost variable
+abbrev pub HaveNoStart : List Point → Type 0
+HaveNoStart [] = Unit {0}
+HaveNoStart (point ∷ points) = IsNoStart point.piece × HaveNoStart points
+
+-- the first annotation, and no other one, declares the cost variable
+abbrev pub BeginWithStart : List Point → Type 0
+BeginWithStart [] = ⊥
+BeginWithStart (point ∷ points) = (point.piece ≡ Start) × HaveNoStart points

@@ -21,7 +21,10 @@ pub fn copy_type(alloc: Global, ty: &Ty) -> Result<Ty, NoMemory>
         Ty::I32 => Ty::I32,
         Ty::U32 => Ty::U32,
         Ty::Pointer(target) => Ty::Pointer(Box::new(alloc, copy_type(alloc, target)?)?),
-        Ty::Array(element, count) => Ty::Array(Box::new(alloc, copy_type(alloc, element)?)?, *count),
+        Ty::Array(element, count) => Ty::Array(
+            Box::new(alloc, copy_type(alloc, element)?)?,
+            *count,
+        ),
         Ty::Struct(number) => Ty::Struct(*number),
     })
 }
@@ -31,7 +34,11 @@ pub fn copy_expr(alloc: Global, e: &Expr) -> Result<Expr, NoMemory>
     ensures { IfOk result (λ r. expr_of r ≡ expr_of e.now) }
 {
     Ok(match e {
-        Expr::Variable(ty, variable, name) => Expr::Variable(copy_type(alloc, ty)?, *variable, *name),
+        Expr::Variable(ty, variable, name) => Expr::Variable(
+            copy_type(alloc, ty)?,
+            *variable,
+            *name,
+        ),
         Expr::Number(ty, number, span) => Expr::Number(copy_type(alloc, ty)?, *number, *span),
         Expr::Parenthesis(ty, left, inner, right) => {
             let inner = Box::new(alloc, copy_expr(alloc, inner)?)?;
@@ -107,7 +114,10 @@ fn copy_earlier_argument(alloc: Global, x: &EarlierArgument) -> Result<EarlierAr
 }
 
 // A copy of all arguments but the last one.
-fn copy_earlier_arguments(alloc: Global, xs: &[EarlierArgument]) -> Result<Vec<EarlierArgument>, NoMemory>
+fn copy_earlier_arguments(
+    alloc: Global,
+    xs: &[EarlierArgument],
+) -> Result<Vec<EarlierArgument>, NoMemory>
     ensures { IfOk result (λ r. map earlier_argument_of r.items ≡ map earlier_argument_of xs.now) }
 {
     let mut copies = Vec::new(alloc);

@@ -9,9 +9,7 @@ use clight_syntax::tree::{
     Declaration, Declared, EarlierParameter, Global as GlobalVariable, Header, Initialiser, Member,
     Parameters, Prototype, StructDefinition,
 };
-use clight_syntax::typed::{
-    Item, Local, LocalInitialiser, MemberType, StructType, Variable,
-};
+use clight_syntax::typed::{Item, Local, LocalInitialiser, MemberType, StructType, Variable};
 use std::alloc::Global;
 
 // A copy of a declarator with the words before it.
@@ -106,7 +104,10 @@ fn copy_earlier_parameter(x: &EarlierParameter) -> Result<EarlierParameter, NoMe
 }
 
 // A copy of all parameters but the last one.
-fn copy_earlier_parameters(alloc: Global, xs: &[EarlierParameter]) -> Result<Vec<EarlierParameter>, NoMemory>
+fn copy_earlier_parameters(
+    alloc: Global,
+    xs: &[EarlierParameter],
+) -> Result<Vec<EarlierParameter>, NoMemory>
     ensures { IfOk result (λ r. map earlier_parameter_of r.items ≡ map earlier_parameter_of xs.now) }
 {
     let mut copies = Vec::new(alloc);

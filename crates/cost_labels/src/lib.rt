@@ -1,7 +1,11 @@
 //! Cost labels: where they stand in a program, the annotations that pass them, and the program without them.
 #![tactic(auto)]
 
-ghost use Rattle.std.specs.Prelude.{◌≡◌, IfOk};
+ghost use Rattle.std.specs.Prelude.{◌≡◌, ℕ, IfOk};
+ghost use Rattle.cerco_base.specs.declared.events.Label.{Label};
+ghost use Rattle.clight_syntax.specs.Annotations.{AreInOrder, BeginWithStart};
+ghost use Rattle.clight_syntax.specs.TypedSpans.{AreAscending, code_spans};
+ghost use Rattle.clight_syntax.specs.TypedTrees.{TypedProgram as TypedTree};
 ghost use Rattle.clight_syntax.specs.TypedViews.{program_of, labelled_of};
 ghost use Rattle.clight_syntax.specs.Labelling.{IsLabelled, without_labels, points_of};
 
@@ -23,16 +27,9 @@ use clight_syntax::typed::TypedProgram;
 use clight_syntax::{Labelled, Piece, Typed};
 use std::alloc::Global;
 
-/// Gives a program its cost labels, and the annotations that pass them.
-///
-/// # Errors
-///
-/// Want of memory, also where the program has more labels than a `Label` can name. The program is dropped then.
-pub fn label(alloc: Global, typed: Typed) -> Result<Labelled, NoMemory>
-    // Without its labels it is the program that was handed in, and its labels are 0, 1, 2 and so on by their place in the
-    // annotated text.
+// Gives a program its cost labels, and the annotations that pass them.
+fn give_labels(alloc: Global, typed: Typed) -> Result<Labelled, NoMemory>
     ensures labelled { IfOk result (λ r. IsLabelled (program_of typed) (labelled_of r)) }
-    // The annotations are those of the program, in the order of the annotated text.
     ensures points { IfOk result (λ r. r.points ≡ points_of (labelled_of r)) }
 {
     let TypedProgram {
@@ -64,6 +61,32 @@ pub fn label(alloc: Global, typed: Typed) -> Result<Labelled, NoMemory>
         },
         points,
     })
+}
+
+/// Gives a program its cost labels, and the annotations that pass them.
+///
+/// # Errors
+///
+/// Want of memory, also where the program has more labels than a `Label` can name. The program is dropped then.
+pub fn label(alloc: Global, typed: Typed) -> Result<Labelled, NoMemory>
+    // Without its labels it is the program that was handed in, and its labels are 0, 1, 2 and so on by their place in the
+    // annotated text.
+    ensures labelled { IfOk result (λ r. IsLabelled (program_of typed) (labelled_of r)) }
+
+    // No other program is so.
+    ensures once { IfOk result (λ r. (other : TypedTree Label) → IsLabelled (program_of typed) other → other ≡ labelled_of r) }
+
+    // The annotations are those of the program, in the order of the annotated text.
+    ensures points { IfOk result (λ r. r.points ≡ points_of (labelled_of r)) }
+
+    // They stand in the order of the source where its tokens do.
+    ensures ordered { IfOk result (λ r. (size : ℕ) → AreAscending 0 (code_spans (program_of typed)) size → AreInOrder size r.points) }
+
+    // The first one, and no other, declares the cost variable.
+    ensures begins { IfOk result (λ r. BeginWithStart r.points) }
+{
+    let labelled = give_labels(alloc, typed)?;
+    Ok(labelled)
 }
 
 /// A copy of a program without its labels.
@@ -99,3 +122,6 @@ pub fn label_and_unlabel(alloc: Global, typed: Typed) -> Result<Typed, NoMemory>
     let labelled = label(alloc, typed)?;
     unlabel(alloc, &labelled)
 }
+
+#[cfg(test)]
+mod tests;

@@ -25,11 +25,7 @@ fn count_with(count: u32, piece: Piece) -> u32
     ensures { result ≡ count + length (labels_of piece) }
 {
     match piece {
-        Piece::Start
-        | Piece::ArmClose
-        | Piece::DoOpen
-        | Piece::DoClose
-        | Piece::CondOpen => count,
+        Piece::Start | Piece::ArmClose | Piece::DoOpen | Piece::DoClose | Piece::CondOpen => count,
         Piece::After(label)
         | Piece::ArmOpen(label)
         | Piece::ThenClose(label)

@@ -143,7 +143,14 @@ fn label_stmt(
             let body = label_do_body(alloc, Box::into_inner(body), marker)?;
             let (test, again) = label_repeat(alloc, test, marker)?;
             let after = marker.add_after(semicolon.to)?;
-            Ok(Stmt::Do(keyword, Box::new(alloc, body)?, test, again, semicolon, after))
+            Ok(Stmt::Do(
+                keyword,
+                Box::new(alloc, body)?,
+                test,
+                again,
+                semicolon,
+                after,
+            ))
         }
         Stmt::For(head, (), body, ()) => {
             let head = label_head(alloc, head, marker)?;

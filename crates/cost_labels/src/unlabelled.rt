@@ -78,46 +78,46 @@ fn head_alone(alloc: Global, x: &ForHead<Label>) -> Result<ForHead<()>, NoMemory
 fn stmt_alone(alloc: Global, s: &Stmt<Label>) -> Result<Stmt<()>, NoMemory>
     ensures { IfOk result (λ r. stmt_of r ≡ stmt_without (stmt_of s.now)) }
 {
-    Ok(match s {
-        Stmt::Empty(semicolon) => Stmt::Empty(*semicolon),
+    match s {
+        Stmt::Empty(semicolon) => Ok(Stmt::Empty(*semicolon)),
         Stmt::Block(left, body, right) => {
-            Stmt::Block(*left, stmts_alone(alloc, body.as_slice())?, *right)
+            Ok(Stmt::Block(*left, stmts_alone(alloc, body.as_slice())?, *right))
         }
-        Stmt::Assign(x, semicolon) => Stmt::Assign(copy_assignment(alloc, x)?, *semicolon),
+        Stmt::Assign(x, semicolon) => Ok(Stmt::Assign(copy_assignment(alloc, x)?, *semicolon)),
         Stmt::ReadPort(target, equals, port, semicolon) => {
-            Stmt::ReadPort(copy_expr(alloc, target)?, *equals, *port, *semicolon)
+            Ok(Stmt::ReadPort(copy_expr(alloc, target)?, *equals, *port, *semicolon))
         }
         Stmt::WritePort(port, equals, value, semicolon) => {
-            Stmt::WritePort(*port, *equals, copy_expr(alloc, value)?, *semicolon)
+            Ok(Stmt::WritePort(*port, *equals, copy_expr(alloc, value)?, *semicolon))
         }
-        Stmt::Call(call, semicolon, _) => Stmt::Call(copy_call(alloc, call)?, *semicolon, ()),
+        Stmt::Call(call, semicolon, _) => Ok(Stmt::Call(copy_call(alloc, call)?, *semicolon, ())),
         Stmt::If(test, _, arm, _) => {
             let arm = Box::new(alloc, stmt_alone(alloc, arm)?)?;
-            Stmt::If(test_alone(alloc, test)?, (), arm, ())
+            Ok(Stmt::If(test_alone(alloc, test)?, (), arm, ()))
         }
         Stmt::IfElse(test, _, arm, at, _, otherwise) => {
             let arm = Box::new(alloc, stmt_alone(alloc, arm)?)?;
             let otherwise = Box::new(alloc, stmt_alone(alloc, otherwise)?)?;
-            Stmt::IfElse(test_alone(alloc, test)?, (), arm, *at, (), otherwise)
+            Ok(Stmt::IfElse(test_alone(alloc, test)?, (), arm, *at, (), otherwise))
         }
         Stmt::While(test, _, body, _) => {
             let body = Box::new(alloc, stmt_alone(alloc, body)?)?;
-            Stmt::While(test_alone(alloc, test)?, (), body, ())
+            Ok(Stmt::While(test_alone(alloc, test)?, (), body, ()))
         }
         Stmt::Do(keyword, body, test, _, semicolon, _) => {
             let body = Box::new(alloc, stmt_alone(alloc, body)?)?;
-            Stmt::Do(*keyword, body, test_alone(alloc, test)?, (), *semicolon, ())
+            Ok(Stmt::Do(*keyword, body, test_alone(alloc, test)?, (), *semicolon, ()))
         }
         Stmt::For(head, _, body, _) => {
             let body = Box::new(alloc, stmt_alone(alloc, body)?)?;
-            Stmt::For(head_alone(alloc, head)?, (), body, ())
+            Ok(Stmt::For(head_alone(alloc, head)?, (), body, ()))
         }
-        Stmt::Break(keyword, semicolon) => Stmt::Break(*keyword, *semicolon),
-        Stmt::Continue(keyword, semicolon) => Stmt::Continue(*keyword, *semicolon),
+        Stmt::Break(keyword, semicolon) => Ok(Stmt::Break(*keyword, *semicolon)),
+        Stmt::Continue(keyword, semicolon) => Ok(Stmt::Continue(*keyword, *semicolon)),
         Stmt::Return(keyword, value, semicolon) => {
-            Stmt::Return(*keyword, copy_optional_expr(alloc, value)?, *semicolon)
+            Ok(Stmt::Return(*keyword, copy_optional_expr(alloc, value)?, *semicolon))
         }
-    })
+    }
 }
 
 // Statements without their labels.

@@ -5,6 +5,7 @@ use Rattle.clight_syntax.specs.Labelling.{stmt_without, stmt_points}
 use Rattle.clight_syntax.proofs.TypedRows.{block_is}
 use Rattle.cost_labels.proofs.Appending.{part_added}
 use Rattle.cost_labels.proofs.SamePlaces.{stmt_from_is}
+use Rattle.cost_labels.proofs.Lists.{labelled_on, points_on}
 use Rattle.cost_labels.proofs.statements.+label_stmt.Goals as goal
 
 pub label_arm-returns-clause-points : goal.label_arm-returns-clause-points
@@ -37,3 +38,12 @@ pub label_stmt-returns-in_ok-label_stmts-in-Block-clause-points : goal.label_stm
 label_stmt-returns-in_ok-label_stmts-in-Block-clause-points t c =
     c.in_ok-label_stmts-in-Block.ensures.points
     ∙ ap (λ s. c.args.marker.now.points ++ stmt_points s) (sym (block_is c.in-Block.left c.in-Block.right c.in_ok-label_stmts-in-Block.field-0))
+
+pub label_stmts-loop-statement-preserved : goal.label_stmts-loop-statement-preserved
+label_stmts-loop-statement-preserved t c =
+    let copies = c.loop-statement.labelled.items in
+    let all = c.push.new.self.items in
+    let x = c.in_ok-label_stmt.field-0 in (
+      labelled_on copies all x c.loop-statement.yielded c.in-Some.statement c.loop-statement.invariant.0 c.in_ok-label_stmt.ensures.alone c.in_ok-push.ensures.items,
+      points_on c.args.marker.now.points c.loop-statement.marker.points c.label_stmt.new.marker.points copies all x c.loop-statement.invariant.1 c.in_ok-label_stmt.ensures.points c.in_ok-push.ensures.items,
+    )
