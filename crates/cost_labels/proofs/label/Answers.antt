@@ -1,4 +1,4 @@
-use Rattle.std.proofs.Common.{ℕ, List, sym, subst}
+use Rattle.std.proofs.Common.{List, sym, subst}
 use Rattle.clight_syntax.specs.declared.points.Point.{Point}
 use Rattle.clight_syntax.specs.TypedViews.{program_of, labelled_of}
 use Rattle.clight_syntax.specs.Annotations.{AreInOrder, BeginWithStart}
