@@ -98,9 +98,9 @@ mutual
   stmt_names (IfElse test one arm else other otherwise) more =
       both_name (cond_points test.condition) (arm_points one (stmt_from arm) (stmt_points arm) (stmt_to arm) ++ arm_points other (stmt_from otherwise) (stmt_points otherwise) (stmt_to otherwise)) more
       ∙ ap (λ labels. labels_in (cond_points test.condition) ++ labels)
-        (part_names (stmt_from arm) (stmt_to arm) (stmt_points arm) (arm_points other (stmt_from otherwise) (stmt_points otherwise) (stmt_to otherwise)) (ArmOpen one) ArmClose more _ _
-          (last_names (stmt_from otherwise) (stmt_to otherwise) (stmt_points otherwise) (ArmOpen other) ArmClose more _ (stmt_names otherwise more))
-          (stmt_names arm (other ∷ stmt_labels otherwise more)))
+      (part_names (stmt_from arm) (stmt_to arm) (stmt_points arm) (arm_points other (stmt_from otherwise) (stmt_points otherwise) (stmt_to otherwise)) (ArmOpen one) ArmClose more _ _
+      (last_names (stmt_from otherwise) (stmt_to otherwise) (stmt_points otherwise) (ArmOpen other) ArmClose more _ (stmt_names otherwise more))
+      (stmt_names arm (other ∷ stmt_labels otherwise more)))
       ∙ cond_names test.condition (one ∷ stmt_labels arm (other ∷ stmt_labels otherwise more))
   stmt_names (While test turn body after) more =
       both_name (cond_points test.condition) (body_points turn (stmt_from body) (stmt_points body) (stmt_to body) after) more
@@ -109,8 +109,8 @@ mutual
   stmt_names (Do keyword body test again semicolon after) more =
       let c = test.condition in
       part_names (stmt_from body) (stmt_to body) (stmt_points body) (between (point (cond_from c) CondOpen) (cond_points c) (point (cond_to c) (CondRepeat again)) ++ point semicolon.to (After after) ∷ []) DoOpen DoClose more _ _
-        (part_names (cond_from c) (cond_to c) (cond_points c) (point semicolon.to (After after) ∷ []) CondOpen (CondRepeat again) more (after ∷ more) _ refl (cond_names c (again ∷ after ∷ more)))
-        (stmt_names body (cond_labels c (again ∷ after ∷ more)))
+      (part_names (cond_from c) (cond_to c) (cond_points c) (point semicolon.to (After after) ∷ []) CondOpen (CondRepeat again) more (after ∷ more) _ refl (cond_names c (again ∷ after ∷ more)))
+      (stmt_names body (cond_labels c (again ∷ after ∷ more)))
   stmt_names (For head turn body after) more =
       both_name (head_points head.condition) (body_points turn (stmt_from body) (stmt_points body) (stmt_to body) after) more
       ∙ ap (λ labels. labels_in (head_points head.condition) ++ labels) (last_names (stmt_from body) (stmt_to body) (stmt_points body) (ArmOpen turn) (BodyClose after) more _ (stmt_names body (after ∷ more)))

@@ -47,8 +47,8 @@ mutual
       let behind = arm_points other (stmt_from otherwise) (stmt_points otherwise) (stmt_to otherwise) in
       both_without (cond_points test.condition) (front ++ behind) (cond_later test.condition)
       (both_without front behind
-        (wrapped (stmt_from arm) (stmt_to arm) (stmt_points arm) (ArmOpen one) ArmClose tt tt (stmt_later arm))
-        (wrapped (stmt_from otherwise) (stmt_to otherwise) (stmt_points otherwise) (ArmOpen other) ArmClose tt tt (stmt_later otherwise)))
+      (wrapped (stmt_from arm) (stmt_to arm) (stmt_points arm) (ArmOpen one) ArmClose tt tt (stmt_later arm))
+      (wrapped (stmt_from otherwise) (stmt_to otherwise) (stmt_points otherwise) (ArmOpen other) ArmClose tt tt (stmt_later otherwise)))
   stmt_later (While test turn body after) =
       both_without (cond_points test.condition) (body_points turn (stmt_from body) (stmt_points body) (stmt_to body) after) (cond_later test.condition)
       (wrapped (stmt_from body) (stmt_to body) (stmt_points body) (ArmOpen turn) (BodyClose after) tt tt (stmt_later body))
