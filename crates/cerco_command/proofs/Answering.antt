@@ -43,14 +43,16 @@ says_rest o p q text rest meant status a says = record { keeps = keeps_on o p q 
   where
     size : length text ≡ length a.front + length rest
     size = ap length (sym a.whole) ∙ length-append a.front rest
+
     cases : ((status ≡ meant) × Adds p q rest) ⊎ (FellShort p q rest status × AddsPrefix p q rest) → ((status ≡ meant) × Adds o q text) ⊎ (FellShort o q text status × AddsPrefix o q text)
     cases (inl s) = inl (s.0, subst (λ (x : List ℕ). Adds o q x) a.whole (adds_on o p q a.front rest a.keeps a.added s.1))
     cases (inr s) =
         let f = s.1 in
         let all = size in
-        inr
-        (later_fell o p q rest text status a.keeps.later (omega arith) s.0,
-        (a.front ++ f.0, f.1, append_assoc a.front f.0 f.1 ∙ (ap (λ (x : List ℕ). a.front ++ x) f.2 ∙ a.whole), adds_on o p q a.front f.0 a.keeps a.added f.3))
+        inr (
+          later_fell o p q rest text status a.keeps.later (omega arith) s.0,
+          (a.front ++ f.0, f.1, append_assoc a.front f.0 f.1 ∙ (ap (λ (x : List ℕ). a.front ++ x) f.2 ∙ a.whole), adds_on o p q a.front f.0 a.keeps a.added f.3),
+        )
 
 -- what was put of a text was put of a longer one
 pub so_far_more : (o p : SinkState) (text pending more : List ℕ) → SoFar o p text pending → SoFar o p (text ++ more) (pending ++ more)

@@ -159,6 +159,7 @@ not_built files s t NoFile line same c = (c.1 ∙ ap no_file (the_source c.2), �
     the_source : (c.0 ≡ files.source) ⊎ ⊥ → c.0 ≡ files.source
     the_source (inl e) = e
     the_source (inr e) = absurd e
+
     none : ((c.0 ≡ files.source) × (s.file files.source ≡ None)) ⊎ (((bytes : List ℕ) × (s.file files.source ≡ Some bytes)) × ⊥) → s.file files.source ≡ None
     none (inl m) = m.1
     none (inr m) = absurd m.1

@@ -34,12 +34,13 @@ module _ (code : List ℕ) where
       let same : j ≡ i = cc in
       let S : Instr → Type 0 = λ k. StandFrom code (address + length (encode_of k)) js in
       let E : Instr → Type 0 = λ k. Ends code (end_of (address + length (encode_of k)) js) b y in
-      let more = once_from (address + length (encode_of i)) is js a b x y s.2 (subst S same t.2) p (subst E same q) in
-      (more.0,
-      append_assoc (line_of address i) (lines_from (address + length (encode_of i)) is) x
-      ∙ (ap (λ (l : List ℕ). line_of address i ++ l) more.1
-      ∙ (sym (append_assoc (line_of address i) (lines_from (address + length (encode_of i)) js) y)
-      ∙ ap (λ (k : Instr). lines_from address (k ∷ js) ++ y) (sym same))))
+      let more = once_from (address + length (encode_of i)) is js a b x y s.2 (subst S same t.2) p (subst E same q) in (
+        more.0,
+        append_assoc (line_of address i) (lines_from (address + length (encode_of i)) is) x
+            ∙ (ap (λ (l : List ℕ). line_of address i ++ l) more.1
+            ∙ (sym (append_assoc (line_of address i) (lines_from (address + length (encode_of i)) js) y)
+            ∙ ap (λ (k : Instr). lines_from address (k ∷ js) ++ y) (sym same))),
+      )
 
   pub one_listing : (a b : Status) (x y : List ℕ) → ListsTo code a x → ListsTo code b y → (a ≡ b) × (x ≡ y)
   one_listing a b x y p q =

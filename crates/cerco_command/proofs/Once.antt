@@ -34,6 +34,7 @@ one_code text c d p q = by ((answer_code text c p).accepts d q)
   where
     answer : List ℕ → Result (List ℕ) HexError
     answer l = Ok l
+
     by : (answer c ≡ Ok d) ⊎ (answer c ≡ Err Hex.OutOfMemory) → c ≡ d
     by (inl e) = cc
     by (inr e) = absurd cc
@@ -43,6 +44,7 @@ code_or_fault text c f p q = by ((answer_code text c p).refuses f q)
   where
     answer : List ℕ → Result (List ℕ) HexError
     answer l = Ok l
+
     by : (answer c ≡ Err (Hex.Fault f)) ⊎ (answer c ≡ Err Hex.OutOfMemory) → ⊥
     by (inl e) = cc
     by (inr e) = cc
@@ -52,6 +54,7 @@ one_fault text f g p q = by ((answer_fault text f p).refuses g q)
   where
     answer : HexFault → Result (List ℕ) HexError
     answer x = Err (Hex.Fault x)
+
     by : (answer f ≡ answer g) ⊎ (answer f ≡ Err Hex.OutOfMemory) → f ≡ g
     by (inl e) = cc
     by (inr e) = absurd cc
@@ -62,6 +65,7 @@ one_map text c d p q = by ((map_answer_right text c p).accepts d q)
   where
     answer : List ℕ → Result (List ℕ) MapError
     answer l = Ok l
+
     by : (answer c ≡ Ok d) ⊎ (answer c ≡ Err Map.OutOfMemory) → c ≡ d
     by (inl e) = cc
     by (inr e) = absurd cc
@@ -71,6 +75,7 @@ map_or_fault text c f p q = by ((map_answer_right text c p).refuses f q)
   where
     answer : List ℕ → Result (List ℕ) MapError
     answer l = Ok l
+
     by : (answer c ≡ Err (Map.Fault f)) ⊎ (answer c ≡ Err Map.OutOfMemory) → ⊥
     by (inl e) = cc
     by (inr e) = cc
@@ -80,6 +85,7 @@ one_bad_line text f g p q = by ((map_answer_fault text f p).refuses g q)
   where
     answer : MapFault → Result (List ℕ) MapError
     answer x = Err (Map.Fault x)
+
     by : (answer f ≡ answer g) ⊎ (answer f ≡ Err Map.OutOfMemory) → f ≡ g
     by (inl e) = cc
     by (inr e) = absurd cc
@@ -169,11 +175,13 @@ run_once names s t u a b x y known fa fb p q = by p.means q.means
   where
     Read : RunTexts → Type 0
     Read texts = IsTrue s.known → AreTextsOf names s texts
+
     some_missing : (name : List ℕ) (texts : RunTexts) → IsFirstMissing s name (names_of names) → Read texts → ⊥
     some_missing name texts (inl m) r = let none = m.1 in let there = (r known).hex_read.1 in cc
     some_missing name texts (inr (there, inl m)) r = let none = m.1 in let there' = (r known).map_read.1 in cc
     some_missing name texts (inr (there, inr (there', inl m))) r = let none = m.1 in let there'' = (r known).script_read.1 in cc
     some_missing name texts (inr (there, inr (there', inr m))) r = m.1
+
     texts_same : (f g : RunTexts) → Read f → Read g → g ≡ f
     texts_same f g r w =
         let h = one_text (longest + 1) s names.hex g.hex f.hex (w known).hex_read (r known).hex_read in
@@ -181,6 +189,7 @@ run_once names s t u a b x y known fa fb p q = by p.means q.means
         let k = one_text (longest + 1) s names.script g.script f.script (w known).script_read (r known).script_read in
         let made : List ℕ → List ℕ → List ℕ → RunTexts = λ i j l. record { hex = i; map = j; script = l } in
         ap (λ (i : List ℕ). made i g.map g.script) h ∙ (ap (λ (j : List ℕ). made f.hex j g.script) m ∙ ap (λ (l : List ℕ). made f.hex f.map l) k)
+
     by : CannotRead (names_of names) s t a x ⊎ ((texts : RunTexts) × Read texts × RunMeansFor names texts a x) → CannotRead (names_of names) s u b y ⊎ ((texts : RunTexts) × Read texts × RunMeansFor names texts b y) → (a ≡ b) × (x ≡ y)
     by (inl c) (inl d) =
         let m = unread (names_of names) s t a x known fa c in
@@ -217,9 +226,11 @@ list_once name s t u a b x y known fa fb p q = by p.means q.means
   where
     Read : List ℕ → Type 0
     Read hex = IsTrue s.known → HasText s name hex
+
     missing : (n hex : List ℕ) → IsFirstMissing s n (name ∷ []) → Read hex → ⊥
     missing n hex (inl m) r = let none = m.1 in let there = (r known).1 in cc
     missing n hex (inr m) r = m.1
+
     by : CannotRead (name ∷ []) s t a x ⊎ ((hex : List ℕ) × Read hex × ListMeansFor name hex a x) → CannotRead (name ∷ []) s u b y ⊎ ((hex : List ℕ) × Read hex × ListMeansFor name hex b y) → (a ≡ b) × (x ≡ y)
     by (inl c) (inl d) =
         let m = unread (name ∷ []) s t a x known fa c in

@@ -24,10 +24,12 @@ run_meant names texts machine short object is status line runs = by_status (stop
   where
     script_is : machine.state.core.script ≡ texts.script
     script_is = ap (λ (s : State). s.core.script) is
+
     printed : PrintsRun names texts status line
     printed =
         let P : List ℕ → Type 0 = λ script. RunsTo (record { code = machine.code; labels = machine.labels; script = script }) names.limit status line in
         record { code = machine.code; labels = machine.labels; object_read = object; runs = subst P script_is runs }
+
     by_status : (status ≡ Done) ⊎ (status ≡ Reserved) → RunMeansFor names texts status line
     by_status (inl e) = let P : Status → Type 0 = λ s. PrintsRun names texts s line → RunMeansFor names texts s line in let by : P Done = λ q. (short, q) in subst P (sym e) by printed
     by_status (inr e) = let P : Status → Type 0 = λ s. PrintsRun names texts s line → RunMeansFor names texts s line in let by : P Reserved = λ q. (short, q) in subst P (sym e) by printed

@@ -106,6 +106,7 @@ module _ (m : Setup) (limit : ℕ) where
     where
       P : Moved → Type 0
       P v = GoesOn limit (state_after m r.steps) v
+
       at : (v : Moved) (k : ℕ) → k ≤ r.steps → step_after m k ≡ v → Stops limit (state_after m k) v status p.last → status ≡ Is.Reserved
       at Halts k before is stops =
           let there : (r.steps - k) + k ≡ r.steps = omega arith in
@@ -131,6 +132,7 @@ module _ (m : Setup) (limit : ℕ) where
           full Is.Reserved s below = refl
           full Is.Done s below = let over = s.0 in absurd (omega arith)
           full a s below = absurd s
+
       by : (r.steps < p.steps) ⊎ (p.steps ≤ r.steps) → status ≡ Is.Reserved
       by (inl before) = absurd (subst P r.stands (p.goes_on r.steps before))
       by (inr after') = at (step_after m p.steps) p.steps after' refl p.stops

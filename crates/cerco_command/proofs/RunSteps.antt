@@ -47,6 +47,7 @@ step_cycles code labels s e t h = by_instr (instr_at code s.pc) h
     by_halt i false g =
         let took : s.cycles + cycles_of i ≡ t.cycles = ap (cycles_in 0) g in
         let least = (cycle_bounds i).0 in let most = (cycle_bounds i).1 in (omega arith, omega arith)
+
     by_instr : (o : Option Instr) → moved_by code labels o s ≡ Goes e t → (s.cycles < t.cycles) × (t.cycles ≤ s.cycles + 4)
     by_instr None g = absurd cc
     by_instr (Some i) g = by_halt i (halts i s.pc) g

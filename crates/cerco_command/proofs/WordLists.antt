@@ -40,6 +40,7 @@ limit_some word n small e = (is (sym value), value)
   where
     value : digits_value 10 word ≡ n
     value = ap (digits_value 10) e ∙ (decimal_is_IsNumeral n (omega arith)).1
+
     is : n ≡ digits_value 10 word → is_limit word ≡ true
     is v =
         let written : bytes_eq word (decimal (digits_value 10 word)) ≡ true = (bytes_eq-Decides word (decimal (digits_value 10 word))).1 (e ∙ ap decimal v) in

@@ -84,7 +84,12 @@ fn make_texts(alloc: Global, source: &[u8], program: &PlainProgram) -> Result<Te
 }
 
 // Writes an output whole.
-fn write_output<F: Files>(alloc: Global, files: &mut F, name: &str, text: &[u8]) -> Result<(), Reply>
+fn write_output<F: Files>(
+    alloc: Global,
+    files: &mut F,
+    name: &str,
+    text: &[u8],
+) -> Result<(), Reply>
     ensures { WritesAll ((name.now, text.now) ∷ []) (F.state files.old) (F.state files.new) result }
 {
     match write_file(files, name, text) {

@@ -46,7 +46,12 @@ fn obey<F: Files, O: Sink>(alloc: Global, command: &Command, files: &mut F, out:
 }
 
 // Carries out what the words ask for.
-fn carry_out<F: Files, O: Sink>(alloc: Global, words: &[String], files: &mut F, out: &mut O) -> Status
+fn carry_out<F: Files, O: Sink>(
+    alloc: Global,
+    words: &[String],
+    files: &mut F,
+    out: &mut O,
+) -> Status
     ensures { Answers (Means (request_of (map string_bytes words.now)) (F.state files.old) (F.state files.new)) (O.state out.old) (O.state out.new) result }
 {
     match read_words(alloc, words) {

@@ -115,7 +115,11 @@ pub fn put_events<O: Sink>(events: Events, cycles: u64, out: &mut O) -> Result<(
 /// # Errors
 ///
 /// The fault of the output. A prefix of the text was put then.
-pub fn put_pending<O: Sink>(alloc: Global, pending: SoundSink, out: &mut O) -> Result<SoundSink, IoFault>
+pub fn put_pending<O: Sink>(
+    alloc: Global,
+    pending: SoundSink,
+    out: &mut O,
+) -> Result<SoundSink, IoFault>
     ensures front { IfOk result (λ left. PutsFront (O.state out.old) (O.state out.new) (sound_sink_state pending).bytes (sound_sink_state left).bytes) }
     ensures fault { IfErr result (λ fault. PutsText {T = Unit {0}} (O.state out.old) (O.state out.new) (sound_sink_state pending).bytes (Err fault)) }
 {

@@ -98,12 +98,7 @@ fn print_step(
 }
 
 // Prints the run of a machine from reset.
-fn print_run<O: Sink>(
-    alloc: Global,
-    machine: &mut Machine<'_>,
-    limit: u32,
-    out: &mut O,
-) -> Status
+fn print_run<O: Sink>(alloc: Global, machine: &mut Machine<'_>, limit: u32, out: &mut O) -> Status
     requires limit { limit ≤ 1000000000 }
     requires reset { machine.old.state ≡ reset machine.old.state.core.script }
     ensures { Answers (RunsTo (setup_of machine.old) limit) (O.state out.old) (O.state out.new) result }

@@ -36,7 +36,11 @@ fn see<F: Files>(
     printed: &str,
 ) -> Result<(), Fail> {
     let mut out = MemorySink::new(alloc);
-    assert_eq!(rt; cerco(alloc, &split(alloc, words)?, files, &mut out), status, "{words}");
+    assert_eq!(rt;
+        cerco(alloc, &split(alloc, words)?, files, &mut out),
+        status,
+        "{words}"
+    );
     assert_eq!(rt; out.bytes(), printed.as_bytes(), "{words}");
     Ok(())
 }
@@ -64,7 +68,14 @@ fn programs_are_built_run_and_listed(rt: HostRuntime) -> Result<(), Fail> {
     assert_eq!(rt; files.bytes("a.ann").unwrap_or(b""), EMPTY_ANNOTATED);
     assert_eq!(rt; files.bytes("a.c").unwrap_or(b""), EMPTY);
     files.place("s", b"")?;
-    see(&rt, alloc, &mut files, "run a.hex a.map s 100", 0, "L0 4\nend 7\n")?;
+    see(
+        &rt,
+        alloc,
+        &mut files,
+        "run a.hex a.map s 100",
+        0,
+        "L0 4\nend 7\n",
+    )?;
     see(
         &rt,
         alloc,
@@ -106,10 +117,24 @@ fn objects_without_labels_are_run(rt: HostRuntime) -> Result<(), Fail> {
     let alloc = rt.alloc();
     let hex = b":06000000E590F5A080FE72\n:00000001FF\n";
     let mut files = object(alloc, hex, &[7])?;
-    see(&rt, alloc, &mut files, "run h m s 100", 0, "R1 7 0\nP2 7 1\nend 2\n")?;
+    see(
+        &rt,
+        alloc,
+        &mut files,
+        "run h m s 100",
+        0,
+        "R1 7 0\nP2 7 1\nend 2\n",
+    )?;
     let hex = b":0500000053900F80FE8B\n:00000001FF\n";
     let mut files = object(alloc, hex, b"")?;
-    see(&rt, alloc, &mut files, "run h m s 100", 0, "P1 15 0\nend 2\n")?;
+    see(
+        &rt,
+        alloc,
+        &mut files,
+        "run h m s 100",
+        0,
+        "P1 15 0\nend 2\n",
+    )?;
     let mut files = object(alloc, b":00000001FF\n", b"")?;
     see(&rt, alloc, &mut files, "run h m s 5", 0, "stop 5\n")?;
     see(&rt, alloc, &mut files, "run h m m 0", 0, "stop 0\n")?;
@@ -120,11 +145,25 @@ fn objects_without_labels_are_run(rt: HostRuntime) -> Result<(), Fail> {
     see(&rt, alloc, &mut files, "run h m s 0", 0, "stop 0\n")?;
     // NOP, A5H, and at the end an instruction whose operand is past it
     let mut files = object(alloc, b":0300000000A575E3\n:00000001FF\n", b"")?;
-    see(&rt, alloc, &mut files, "list h", 8, "0000 00 NOP\nreserved 0001\n")?;
+    see(
+        &rt,
+        alloc,
+        &mut files,
+        "list h",
+        8,
+        "0000 00 NOP\nreserved 0001\n",
+    )?;
     let mut files = object(alloc, b":020000000075 89\n:00000001FF\n", b"")?;
     see(&rt, alloc, &mut files, "list h", 6, "bad hex 1 form\n")?;
     let mut files = object(alloc, b":02000000007589\n:00000001FF\n", b"")?;
-    see(&rt, alloc, &mut files, "list h", 0, "0000 00 NOP\n0001 750000 MOV 00H,#00H\n")
+    see(
+        &rt,
+        alloc,
+        &mut files,
+        "list h",
+        0,
+        "0000 00 NOP\n0001 750000 MOV 00H,#00H\n",
+    )
 }
 
 #[test]
@@ -136,7 +175,13 @@ fn bad_texts_are_told(rt: HostRuntime) -> Result<(), Fail> {
     files.place("m", MAP)?;
     files.place("s", b"")?;
     for (before, line, behind, status, printed) in &[
-        ("", ":0A00000075817F12000880FE0022C8\n", end, 6, "bad hex 1 sum\n"),
+        (
+            "",
+            ":0A00000075817F12000880FE0022C8\n",
+            end,
+            6,
+            "bad hex 1 sum\n",
+        ),
         ("", first, "", 6, "bad hex 2 noend\n"),
         (":020000040000FA\n", first, end, 0, "L0 4\nend 7\n"),
         (":020000040001F9\n", first, end, 6, "bad hex 1 upper\n"),
@@ -177,7 +222,14 @@ fn other_sources_are_refused(rt: HostRuntime) -> Result<(), Fail> {
     for text in &texts {
         let mut files = MemoryFiles::new(alloc);
         files.place("a", text.as_bytes())?;
-        see(&rt, alloc, &mut files, "build a h m n", 3, "refused 0 unsupported\n")?;
+        see(
+            &rt,
+            alloc,
+            &mut files,
+            "build a h m n",
+            3,
+            "refused 0 unsupported\n",
+        )?;
         assert_eq!(rt; files.bytes("h").is_none(), true, "{text}");
     }
     Ok(())
@@ -199,19 +251,40 @@ fn the_longest_source_is_built(rt: HostRuntime) -> Result<(), Fail> {
     text.extend_from_slice(b"P1=0;P1=0;}")?;
     files.place("a", text.as_slice())?;
     assert_eq!(rt; text.len(), 65537);
-    see(&rt, alloc, &mut files, "build a h m n", 3, "refused 0 unsupported\n")
+    see(
+        &rt,
+        alloc,
+        &mut files,
+        "build a h m n",
+        3,
+        "refused 0 unsupported\n",
+    )
 }
 
 #[test]
 fn faults_and_missing_files_are_named(rt: HostRuntime) -> Result<(), Fail> {
     let alloc = rt.alloc();
     let mut files = MemoryFiles::new(alloc);
-    see(&rt, alloc, &mut files, "build a.c h m n", 1, "no file a.c\n")?;
+    see(
+        &rt,
+        alloc,
+        &mut files,
+        "build a.c h m n",
+        1,
+        "no file a.c\n",
+    )?;
     assert_eq!(rt; files.bytes("h").is_none(), true);
     files.place("a.c", EMPTY)?;
     // The calls are numbered over all runs: one for the missing file, two that read, two that write `h`, and then `m` is created.
     files.fail(5)?;
-    see(&rt, alloc, &mut files, "build a.c h m n", 4, "file fault m\n")?;
+    see(
+        &rt,
+        alloc,
+        &mut files,
+        "build a.c h m n",
+        4,
+        "file fault m\n",
+    )?;
     assert_eq!(rt; files.bytes("h").unwrap_or(b""), EMPTY_HEX);
     assert_eq!(rt; files.bytes("m").is_none(), true);
     assert_eq!(rt; files.bytes("a.c").unwrap_or(b""), EMPTY);
@@ -242,7 +315,10 @@ fn faults_of_the_output_are_told(rt: HostRuntime) -> Result<(), Fail> {
     }
     let mut out = MemorySink::new(alloc);
     out.fail(0)?;
-    assert_eq!(rt; cerco(alloc, &split(alloc, "list x")?, &mut files, &mut out), 5);
+    assert_eq!(rt;
+        cerco(alloc, &split(alloc, "list x")?, &mut files, &mut out),
+        5
+    );
     assert_eq!(rt; out.bytes(), b"".as_slice());
     Ok(())
 }
@@ -270,7 +346,14 @@ fn other_words_are_no_command(rt: HostRuntime) -> Result<(), Fail> {
     ] {
         see(&rt, alloc, &mut files, words, 2, "usage\n")?;
     }
-    see(&rt, alloc, &mut files, "run b b b 1000000000", 1, "no file b\n")?;
+    see(
+        &rt,
+        alloc,
+        &mut files,
+        "run b b b 1000000000",
+        1,
+        "no file b\n",
+    )?;
     let mut words = split(alloc, "build a h m")?;
     words.push(String::new(alloc))?;
     let mut out = MemorySink::new(alloc);

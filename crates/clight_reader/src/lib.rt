@@ -6,6 +6,8 @@ ghost use Rattle.clight_reader.specs.Reasons.{HasNoTree};
 ghost use Rattle.clight_syntax.specs.SourceTrees.{IsTreeOf};
 ghost use Rattle.clight_syntax.specs.Views.{program_of};
 
+pub mod laws;
+
 use cerco_base::Fault;
 use clight_syntax::Program;
 use clight_tokens::TokenList;

@@ -1,6 +1,6 @@
 -- What a token is to the grammar (ISO/IEC 9899:1999, 6.4.1, 6.4.2 and 6.4.6): a keyword, a name by its number, a constant or a
 -- punctuator. `P1` is a keyword of this compiler. A keyword or a punctuator that stands in no rule of the grammar is `Other`.
-use Rattle.std.specs.Prelude.{ℕ, if◌then◌else◌, List, [], ◌∷◌, ◌++◌, map, filter, fold, slice_index, codes, Bool, ◌&&◌, Option, Some, None, is_none, unwrap_or}
+use Rattle.std.specs.Prelude.{◌≡◌, slice_get, ℕ, if◌then◌else◌, List, [], ◌∷◌, ◌++◌, map, filter, fold, slice_index, codes, Bool, ◌&&◌, Option, Some, None, is_none, unwrap_or}
 use Rattle.std.specs.List.{list_any, position}
 use Rattle.std.specs.Str.{bytes_eq}
 use Rattle.std.specs.Map.{lookup}
@@ -74,3 +74,9 @@ names_of l = fold with_name [] (filter is_name (map (λ t. t.text) l))
 -- the terminal symbols of a list of tokens
 abbrev pub terminals_of : List Token → List Terminal
 terminals_of l = map (terminal_of (names_of l)) l
+
+-- the text is a name with a number, and the number has its spelling
+pub record IsNumbered (names : List (List ℕ)) (text : List ℕ) : Type 0 where
+  pub number : ℕ
+  pub symbol : symbol_of names text ≡ s.Name number
+  pub spelling : slice_get names number ≡ Some text

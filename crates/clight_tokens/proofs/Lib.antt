@@ -9,3 +9,4 @@ pub mod Unique
 pub mod OneAnswer
 pub mod Spans
 pub mod NameLists
+pub mod Numbering

@@ -19,12 +19,14 @@ pub fn is_source_byte(b: u8) -> bool
     (32 <= b && b <= 126) || b == b'\t' || b == b'\n' || b == b'\r'
 }
 
+/// Whether it is a blank, a tab or a line end.
 pub fn is_blank(b: u8) -> bool
     ensures { result ≡ s.is_blank b }
 {
     b == b' ' || b == b'\t' || b == b'\n' || b == b'\r'
 }
 
+/// Whether it is a decimal digit.
 pub fn is_digit(b: u8) -> bool
     ensures { result ≡ s.is_digit b }
 {
@@ -52,6 +54,7 @@ pub fn in_line(b: u8) -> bool
     !(b == b'\n' || b == b'\r')
 }
 
+/// Whether these neighbours are such a pair.
 pub fn is_pair(pair: Pair, a: u8, b: u8) -> bool
     ensures { result ≡ test_of pair a b }
 {

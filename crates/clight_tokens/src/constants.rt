@@ -6,6 +6,9 @@ ghost use Rattle.clight_tokens.specs.Views.{IsValue};
 
 use clight_syntax::{Literal, Radix};
 
+/// The largest value of a constant.
+const LARGEST: u32 = 65535;
+
 fn base(radix: Radix) -> u32
     ensures value { result ≡ s.base radix }
     ensures bound { result ≤ 16 }
@@ -86,7 +89,7 @@ fn value(radix: Radix, digits: &[u8]) -> Option<u32>
             return None;
         }
         value = value * base + digit;
-        if value > 65535 {
+        if value > LARGEST {
             return None;
         }
     }

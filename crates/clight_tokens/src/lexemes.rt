@@ -95,6 +95,7 @@ fn comment(rest: &[u8]) -> Option<Lexeme>
     }
 }
 
+// The comment that `/*` begins there.
 #[tactic(auto, using(crate::proofs::Places::places))]
 fn block(rest: &[u8]) -> Lexeme
     requires some { 1 < length rest.now }

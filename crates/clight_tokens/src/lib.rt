@@ -9,8 +9,8 @@ pub mod symbols;
 pub mod tables;
 pub mod token_list;
 
-pub use scanner::tokens;
-pub use symbols::{TerminalList, terminals};
+pub use scanner::{one_answer, tokens};
+pub use symbols::{TerminalList, names_have_numbers, terminals};
 pub use token_list::{Token, TokenList};
 
 #[cfg(test)]

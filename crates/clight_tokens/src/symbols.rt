@@ -1,7 +1,8 @@
 //! The tokens of a source as the grammar sees them.
-ghost use Rattle.std.specs.Prelude.{◌≡◌, ◌<◌, ◌≤◌, ◌+◌, ◌^◌, length, map, IfOk, OnOk};
+ghost use Rattle.std.specs.Prelude.{◌≡◌, ◌<◌, ◌≤◌, ◌+◌, ◌^◌, ◌++◌, ◌∷◌, List, length, map, IfOk, OnOk, IsTrue};
 ghost use Rattle.indexmap.specs.IndexSet.{index_set_len};
 ghost use Rattle.clight_syntax.specs.Symbols as s;
+ghost use Rattle.clight_syntax.specs.Tokens as k;
 ghost use Rattle.clight_tokens.specs.TokenViews.{token_of};
 ghost use Rattle.clight_tokens.specs.SymbolViews.{spellings, with_token};
 
@@ -126,3 +127,8 @@ pub fn terminals(alloc: Global, tokens: &TokenList<'_>) -> Result<TerminalList, 
     let names = own_names(alloc, &names)?;
     Ok(TerminalList { names, terminals })
 }
+
+/// Each name of a list of tokens has a number, by which its spelling is found.
+pub fn names_have_numbers()
+    ensures { (before after : List k.Token) (t : k.Token) → IsTrue (s.is_name t.text) → s.IsNumbered (s.names_of (before ++ t ∷ after)) t.text }
+{}

@@ -12,6 +12,8 @@ pub returns-then-ne : goal.returns-then-ne
 returns-then-ne c = λ n small e.
     let gives = parse-decimal 32 n c.args.word.now c.parse.result (omega arith) (omega arith) e c.parse.ensures.value.0 in
     let value : c.in-Ok.limit ≡ n = cc in
-    elim c.then-ne.branch [ then-ne-via-then-ne w ↦
-        unequal c.format.result.now c.args.word.now (sym w.if-ne.true ∙ c.ne.ensures) (c.format.ensures.text ∙ (ap decimal value ∙ sym e))
-    | then-ne-via-else-ne+then-limit-gt-MOST_CYCLES w ↦ omega arith ]
+    elim c.then-ne.branch [
+      | then-ne-via-then-ne w ↦
+          unequal c.format.result.now c.args.word.now (sym w.if-ne.true ∙ c.ne.ensures) (c.format.ensures.text ∙ (ap decimal value ∙ sym e))
+      | then-ne-via-else-ne+then-limit-gt-MOST_CYCLES w ↦ omega arith
+    ]
