@@ -1,5 +1,7 @@
 mod WordLists
+mod PlainWrites
 mod PlainTrees
+mod OneTree
 mod PortCosts
 mod PortCode
 mod PortBounds

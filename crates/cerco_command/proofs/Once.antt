@@ -13,13 +13,12 @@ use Rattle.object_hex.specs.MapMeaning.{IsMapText, IsFirstBadLine}
 use Rattle.object_hex.proofs.HexWalk.{answer_code, answer_fault}
 use Rattle.object_hex.proofs.Maps.{map_answer_right, map_answer_fault}
 use Rattle.cerco_command.specs.Answers.{NamedText}
-use Rattle.cerco_command.specs.Building.{BuildMeans, Refuses}
+use Rattle.cerco_command.specs.Building.{BuildMeans, SaysRefused, Refuses}
 use Rattle.cerco_command.specs.Building as BuildDone
 use Rattle.cerco_command.specs.Disassembly.{ListsTo, PrintsListing, ListMeans, ListMeansFor}
 use Rattle.cerco_command.specs.Inputs.{IsRead, IsFirstMissing, CannotRead, HasText, longest, NoneTooLong, IsFirstTooLong, SaysTooLong, SaysBadHex, SaysBadMap}
 use Rattle.cerco_command.specs.Messages.{no_file, bad_file, bad_hex, bad_map}
 use Rattle.cerco_command.specs.Once.{IsFirm, MeansOnce}
-use Rattle.cerco_command.specs.PortPrograms.{IsPortProgram}
 use Rattle.cerco_command.specs.Running.{RunTexts, RunsTo, PrintsRun, AreTextsOf, names_of, with_names, RunMeans, RunMeansFor}
 use Rattle.cerco_command.specs.Top.{Means, UsageMeans}
 use Rattle.cerco_command.specs.Words.{BuildFiles, RunRequest, Request, Builds, Runs, Lists}
@@ -27,6 +26,7 @@ use Rattle.cerco_command.specs.declared.status.Status.{Status}
 use Rattle.cerco_command.specs.declared.status.Status.TheVariants.{Done, NoFile, Usage, Refused, FileFault, BadInput, Reserved, NoMemory}
 use Rattle.cerco_command.proofs.RunOnce.{one_stop}
 use Rattle.cerco_command.proofs.ListOnce.{one_listing}
+use Rattle.cerco_command.proofs.OneTree.{plain_or_refused, one_refusal}
 
 -- a text gives one code, or has one first bad line
 one_code : (text c d : List ℕ) → IsHexText text c → IsHexText text d → c ≡ d
@@ -243,26 +243,33 @@ list_once name s t u a b x y known fa fb p q = by p.means q.means
         let m = subst M (one_text (longest + 1) s name d.0 c.0 (d.1 known) (c.1 known)) d.2 in
         one_case ((name, c.0) ∷ []) c.0 [] (PrintsListing c.0) a b x y (one_list c.0 a b x y) (list_case name c.0 a x fa c.2) (list_case name c.0 b y fb m)
 
--- a source isn't both a program and none
-accepted_or_refused : (files : BuildFiles) (s t u : FilesState) → BuildDone.Builds files s t → Refuses files s u → ⊥
-accepted_or_refused files s t u p q =
+-- a source isn't both compiled and refused
+accepted_or_refused : (files : BuildFiles) (s t u : FilesState) (text line : List ℕ) → BuildDone.Builds files s t → SaysRefused text line → Refuses files s u text → ⊥
+accepted_or_refused files s t u text line p says q =
     let here = p.read in
     let here' = q.read in
-    let same : p.source ≡ q.source = cc in
-    let P : List ℕ → Type 0 = λ text. IsPortProgram text p.texts.compiled.values in
-    q.no_program p.texts.compiled.values (subst P same p.texts.compiled.program)
+    let same : text ≡ p.source = cc in
+    plain_or_refused p.source line p.texts.compiled.plain p.texts.compiled.program (subst (λ (x : List ℕ). SaysRefused x line) same says)
+
+-- and it is refused in one way
+refused_once : (files : BuildFiles) (s t u : FilesState) (text other x y : List ℕ) → SaysRefused text x → SaysRefused other y → Refuses files s t text → Refuses files s u other → x ≡ y
+refused_once files s t u text other x y p q r w =
+    let here = r.read in
+    let here' = w.read in
+    let same : other ≡ text = cc in
+    one_refusal text x y p (subst (λ (z : List ℕ). SaysRefused z y) same q)
 
 -- the answers of `build`
 build_once : (files : BuildFiles) → MeansOnce (BuildMeans files)
 build_once files s t u Done Done x y known fa fb p q = (refl, p.0 ∙ sym q.0)
 build_once files s t u NoFile NoFile x y known fa fb p q = (refl, p.0 ∙ sym q.0)
-build_once files s t u Refused Refused x y known fa fb p q = (refl, p.0 ∙ sym q.0)
+build_once files s t u Refused Refused x y known fa fb p q = (refl, refused_once files s t u p.0 q.0 x y p.1 q.1 (p.2 known) (q.2 known))
 build_once files s t u Done NoFile x y known fa fb p q = let there = (p.1 known).read in let none = (q.1 known).0 in absurd cc
 build_once files s t u NoFile Done x y known fa fb p q = let none = (p.1 known).0 in let there = (q.1 known).read in absurd cc
-build_once files s t u Refused NoFile x y known fa fb p q = let there = (p.1 known).read in let none = (q.1 known).0 in absurd cc
-build_once files s t u NoFile Refused x y known fa fb p q = let none = (p.1 known).0 in let there = (q.1 known).read in absurd cc
-build_once files s t u Done Refused x y known fa fb p q = absurd (accepted_or_refused files s t u (p.1 known) (q.1 known))
-build_once files s t u Refused Done x y known fa fb p q = absurd (accepted_or_refused files s u t (q.1 known) (p.1 known))
+build_once files s t u Refused NoFile x y known fa fb p q = let there = (p.2 known).read in let none = (q.1 known).0 in absurd cc
+build_once files s t u NoFile Refused x y known fa fb p q = let none = (p.1 known).0 in let there = (q.2 known).read in absurd cc
+build_once files s t u Done Refused x y known fa fb p q = absurd (accepted_or_refused files s t u q.0 y (p.1 known) q.1 (q.2 known))
+build_once files s t u Refused Done x y known fa fb p q = absurd (accepted_or_refused files s u t p.0 x (q.1 known) p.1 (p.2 known))
 build_once files s t u FileFault b x y known fa fb p q = absurd fa
 build_once files s t u NoMemory b x y known fa fb p q = absurd fa
 build_once files s t u Done FileFault x y known fa fb p q = absurd fb

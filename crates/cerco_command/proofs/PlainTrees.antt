@@ -172,7 +172,7 @@ module _ (text : List ℕ) (plain : Plain) (p : IsPlainProgram text plain) where
   few =
       let f = main.function in
       let tokens = ascending_count 0 p.is_tree.list (length text) ascending_tokens in
-      let count : length (terminals_of p.is_tree.list) ≡ length p.is_tree.list = length-map (terminal_of (names_of p.is_tree.list)) p.is_tree.list in
+      let count : length (terminals_of p.is_tree.list) ≡ length p.is_tree.list = length-map p.is_tree.list (terminal_of (names_of p.is_tree.list)) in
       let there = ap length spelled in
       let body = front_at_least (4 * length plain.values) (stmts_terminals f.body) _ (writes_size f.body plain.values main.writes) in
       let whole =

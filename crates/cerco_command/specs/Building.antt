@@ -64,12 +64,12 @@ pub record PartlyBuilds (files : BuildFiles) (s t : FilesState) : Type 0 where
   pub texts : AreCompiled source hex map annotated
   pub written : ArePartlyWritten (outputs files hex map annotated) s t
 
--- the line names the first reason that the source has; or the source is a program that isn't compiled yet
+-- The line names the first reason for which the source has no syntax tree; or it has one, which isn't compiled yet.
 abbrev pub SaysRefused : List ℕ → List ℕ → Type 0
 SaysRefused source line =
     ((reason : Reason) × HasReason source reason × (line ≡ refused reason)) ⊎ (IsOtherProgram source × (line ≡ unsupported))
 
--- the source is refused with this line
+-- the source is what stands under its name, and no file has changed
 pub record Refuses (files : BuildFiles) (s t : FilesState) (source : List ℕ) : Type 0 where
   pub read : s.file files.source ≡ Some source
   pub same : SameFiles s t

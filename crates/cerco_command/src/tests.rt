@@ -205,32 +205,73 @@ fn bad_texts_are_told(rt: HostRuntime) -> Result<(), Fail> {
     see(&rt, alloc, &mut files, "run h m s 100", 0, "L0 4\nend 7\n")
 }
 
+// Builds from a text that is refused with a line.
+fn see_refused(rt: &impl Abort, alloc: Global, text: &[u8], line: &str) -> Result<(), Fail> {
+    let mut files = MemoryFiles::new(alloc);
+    files.place("a", text)?;
+    see(rt, alloc, &mut files, "build a h m n", 3, line)?;
+    assert_eq!(rt; files.bytes("h").is_none(), true, "{line}");
+    Ok(())
+}
+
+// `main` with a number in some parentheses that is written to port 1.
+fn nested(alloc: Global, count: usize) -> Result<String, AllocError> {
+    let mut text = String::from_str(alloc, "void main(void){P1=")?;
+    for _ in 0..count {
+        text.push_str("(")?;
+    }
+    text.push_str("1")?;
+    for _ in 0..count {
+        text.push_str(")")?;
+    }
+    text.push_str(";}")?;
+    Ok(text)
+}
+
+#[test]
+fn blanks_comments_and_parentheses_are_kept(rt: HostRuntime) -> Result<(), Fail> {
+    let alloc = rt.alloc();
+    let mut files = MemoryFiles::new(alloc);
+    files.place("a", b" void main ( void ) { /* a */ P1 = ((5)) ; }\n")?;
+    see(&rt, alloc, &mut files, "build a h m n", 0, "")?;
+    assert_eq!(rt; files.bytes("h").unwrap_or(b""), WRITE_HEX);
+    assert_eq!(rt;
+        files.bytes("n").unwrap_or(b""),
+        b"/*@*/unsigned long __cost=4;/*@*/ void main ( void ) {/*@*/__cost+=5;/*@*/ /* a */ P1 = ((5)) ; }\n".as_slice()
+    );
+    // an octal number
+    files.place("a", b"void main(void){P1=05;}")?;
+    see(&rt, alloc, &mut files, "build a h m n", 0, "")?;
+    assert_eq!(rt; files.bytes("h").unwrap_or(b""), WRITE_HEX);
+    files.place("a", nested(alloc, 64)?.as_bytes())?;
+    see(&rt, alloc, &mut files, "build a h m n", 0, "")?;
+    see_refused(
+        &rt,
+        alloc,
+        nested(alloc, 65)?.as_bytes(),
+        "refused 6 nesting at 19\n",
+    )
+}
+
 #[test]
 fn other_sources_are_refused(rt: HostRuntime) -> Result<(), Fail> {
     let alloc = rt.alloc();
-    let texts = [
-        "void main(void){P1=256;}",
-        "",
-        "void main(void){} ",
-        "void main(void){P1=05;}",
-        "void main(void){P1=;}",
-        "void main(void){P1=+5;}",
-        "void main(void){P1=5}",
-        "void main(void){",
-        "void main(void){}}",
-    ];
-    for text in &texts {
-        let mut files = MemoryFiles::new(alloc);
-        files.place("a", text.as_bytes())?;
-        see(
-            &rt,
-            alloc,
-            &mut files,
-            "build a h m n",
-            3,
-            "refused 0 unsupported\n",
-        )?;
-        assert_eq!(rt; files.bytes("h").is_none(), true, "{text}");
+    for (text, line) in &[
+        ("void main(void){P1=\u{7f};}", "refused 2 byte at 19\n"),
+        ("/*@*/void main(void){}", "refused 3 marker at 0\n"),
+        ("void main(void){}/* x", "refused 4 token at 17\n"),
+        ("void main(void){P1=65536;}", "refused 4 token at 19\n"),
+        ("void main(void){P1=1}", "refused 5 syntax at 20\n"),
+        ("void main(void){P1=+5;}", "refused 5 syntax at 19\n"),
+        ("void main(void){", "refused 5 syntax at 16\n"),
+        ("void main(void){}}", "refused 5 syntax at 17\n"),
+        ("", "refused 0 unsupported\n"),
+        ("void main(void){P1=256;}", "refused 0 unsupported\n"),
+        ("void main(void){int x;}", "refused 0 unsupported\n"),
+        ("void f(void){}", "refused 0 unsupported\n"),
+        ("void main(void){}int x;", "refused 0 unsupported\n"),
+    ] {
+        see_refused(&rt, alloc, text.as_bytes(), line)?;
     }
     Ok(())
 }
@@ -238,27 +279,23 @@ fn other_sources_are_refused(rt: HostRuntime) -> Result<(), Fail> {
 #[test]
 fn the_longest_source_is_built(rt: HostRuntime) -> Result<(), Fail> {
     let alloc = rt.alloc();
-    let mut text = Vec::from_slice(alloc, b"void main(void){")?;
-    for _ in 0..13102 {
-        text.extend_from_slice(b"P1=0;")?;
+    let mut text = Vec::from_slice(alloc, EMPTY)?;
+    for _ in 0..65518 {
+        text.push(b' ')?;
     }
-    text.extend_from_slice(b"P1=255;}")?;
     let mut files = MemoryFiles::new(alloc);
     files.place("a", text.as_slice())?;
-    assert_eq!(rt; text.len(), 65534);
     see(&rt, alloc, &mut files, "build a h m n", 0, "")?;
-    text.truncate(65526);
-    text.extend_from_slice(b"P1=0;P1=0;}")?;
+    assert_eq!(rt; files.bytes("h").unwrap_or(b""), EMPTY_HEX);
+    text.push(b' ')?;
+    see_refused(&rt, alloc, text.as_slice(), "refused 1 long\n")?;
+    text.truncate(16);
+    for _ in 0..13103 {
+        text.extend_from_slice(b"P1=0;")?;
+    }
+    text.extend_from_slice(b"}")?;
     files.place("a", text.as_slice())?;
-    assert_eq!(rt; text.len(), 65537);
-    see(
-        &rt,
-        alloc,
-        &mut files,
-        "build a h m n",
-        3,
-        "refused 0 unsupported\n",
-    )
+    see(&rt, alloc, &mut files, "build a h m n", 0, "")
 }
 
 #[test]
