@@ -1,4 +1,5 @@
 mod WordLists
+mod PlainExamples
 mod PlainWrites
 mod PlainTrees
 mod OneTree

@@ -1,8 +1,8 @@
 -- Lists of five words and of two, and what holds of the requests that words are.
-use Rattle.std.proofs.Common.{◌≡◌, ℕ, ◌<◌, ◌≤◌, List, [], ◌∷◌, length, map, refl, sym, ap, subst, ◌∙◌, arith, Option, None, Some, Bool, true, false, ◌&&◌, cond, bytes_eq, codes, get_or}
+use Rattle.std.proofs.Common.{◌≡◌, ℕ, ◌<◌, ◌≤◌, List, [], ◌∷◌, length, map, refl, sym, ap, subst, ◌∙◌, arith, Option, None, Some, Bool, true, false, not, ◌&&◌, cond, bytes_eq, codes, get_or}
 use Rattle.std.specs.Prelude.{nat_le, decimal, ◌≢◌}
 use Rattle.std.specs.Str.Parse.{digits_value}
-use Rattle.std.proofs.lemmas.Bool.{leb-true, le-leb}
+use Rattle.std.proofs.lemmas.Bool.{leb-true, le-leb, true≢false}
 use Rattle.std.proofs.lemmas.Fmt.{decimal_is_IsNumeral}
 use Rattle.std.proofs.lemmas.Slice.Eq.{bytes_eq-Decides}
 use Rattle.cerco_command.specs.Words.{BuildFiles, RunRequest, HaveDifferentNames, of_five, build_of, is_build, is_name, has_run_names, is_limit, run_of}
@@ -95,3 +95,7 @@ run_small (word ∷ hex ∷ map ∷ script ∷ limit ∷ []) r e =
     let P : RunRequest → Type 0 = λ q. q.limit ≤ 1000000000 in
     subst P f.1 (leb-true (digits_value 10 limit) 1000000000 small.1)
 run_small (a ∷ b ∷ c ∷ d ∷ e' ∷ f ∷ words) r e = absurd cc
+
+-- words that differ are no equal texts
+pub unequal : (xs ys : List ℕ) → true ≡ not (bytes_eq xs ys) → xs ≢ ys
+unequal xs ys differ e = true≢false (differ ∙ ap not ((bytes_eq-Decides xs ys).1 e))

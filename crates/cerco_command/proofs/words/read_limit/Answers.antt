@@ -1,6 +1,6 @@
 use Rattle.std.proofs.Common.{◌≡◌, sym, ◌∙◌, ap, arith, decimal}
 use Rattle.std.proofs.lemmas.Fmt.{parse-decimal}
-use Rattle.cerco_command.proofs.PortTexts.{unequal}
+use Rattle.cerco_command.proofs.WordLists.{unequal}
 use Rattle.cerco_command.proofs.words.read_limit.Goals as goal
 use Rattle.cerco_command.proofs.words.read_limit.Goals.{then-ne-via-then-ne, then-ne-via-else-ne+then-limit-gt-MOST_CYCLES}
 
