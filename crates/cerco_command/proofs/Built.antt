@@ -1,5 +1,5 @@
 -- How `build` ends, from what its stages did.
-use Rattle.std.proofs.Common.{◌≡◌, ℕ, ◌≤◌, List, [], ◌∷◌, length, take, take_all, Bool, true, false, not, ◌&&◌, bytes_eq, IsTrue, Some, None, refl, sym, ap, subst, ◌∙◌, arith, inl, inr, ◌⊎◌}
+use Rattle.std.proofs.Common.{◌≡◌, ℕ, ◌<◌, ◌≤◌, List, [], ◌∷◌, length, take, take_all, Bool, true, false, not, ◌&&◌, bytes_eq, IsTrue, Some, None, refl, sym, ap, subst, ◌∙◌, arith, inl, inr, ◌⊎◌}
 use Rattle.std.proofs.lemmas.Bool.{true≢false}
 use Rattle.std.proofs.lemmas.Slice.Eq.{bytes_eq-Decides}
 use Rattle.std.proofs.lemmas.List.{length-take}
@@ -14,7 +14,7 @@ use Rattle.cerco_command.specs.Answers.{AreWritten, ArePartlyWritten}
 use Rattle.cerco_command.specs.Building.{AreCompiled, outputs, SaysRefused, Builds, PartlyBuilds, IsOutput, BuildMeans}
 use Rattle.cerco_command.specs.Inputs.{IsRead, CannotRead}
 use Rattle.cerco_command.specs.Messages.{no_file}
-use Rattle.cerco_command.specs.Stages.{Replies, IsNameOf, BuildsOn}
+use Rattle.cerco_command.specs.Stages.{IsNameOf, BuildsOn}
 use Rattle.cerco_command.proofs.Writing.{written_from, partly_from}
 use Rattle.cerco_command.specs.declared.status.Status.{Status}
 use Rattle.cerco_command.specs.declared.status.Status.TheVariants.{Done, NoFile, Refused, FileFault, NoMemory}
@@ -97,11 +97,6 @@ whole_other text all e o = subst IsOtherProgram (whole text all e o.is_tree.toke
 whole_refused : (text all line : List ℕ) → text ≡ take 65536 all → SaysRefused text line → SaysRefused all line
 whole_refused text all line e (inl h) = inl (h.0, whole_reason text all h.0 e h.1, h.2)
 whole_refused text all line e (inr h) = inr (whole_other text all e h.0, h.1)
-
--- the reply to a source that is refused
-pub replied : (files : BuildFiles) (text meant : List ℕ) (s : FilesState) (status : Status) (line : List ℕ) → SaysRefused text meant → Replies Refused meant status line → BuildsOn files text s s status line
-replied files text meant s status line says (inl r) = rw (r.0, r.1) (says, λ h q. refl)
-replied files text meant s status line says (inr r) = rw (r.0, r.1) (inl (refl, λ h q. refl))
 
 module _ (files : BuildFiles) (text : List ℕ) (s t u : FilesState) (later : s.faults ≤ t.faults) (read : IsTrue s.known → IsRead 65536 s files.source text) (same : IsTrue s.known → SameFiles s t) (known : IsTrue s.known → IsTrue t.known) where
   source_read : (hex map annotated : List ℕ) → AreCompiled text hex map annotated → (h : IsTrue s.known) → s.file files.source ≡ Some text
