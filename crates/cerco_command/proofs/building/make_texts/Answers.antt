@@ -12,6 +12,10 @@ compile-requires c = let f = few c.args.source.now (plain_of c.args.program.now)
 pub write_hex-requires : goal.write_hex-requires
 write_hex-requires c = rw (c.as_slice.ensures, c.in_ok-object.ensures.code) (code_fits c.args.program.now.writes (few c.args.source.now (plain_of c.args.program.now) c.requires))
 
+pub annotate-requires-clause-ordered : goal.annotate-requires-clause-ordered
+annotate-requires-clause-ordered c =
+    rw c.in_ok-points.ensures (omega arith, (omega arith, body_within c.args.source.now (plain_of c.args.program.now) c.requires))
+
 pub returns : goal.returns
 returns c =
     let o = c.in_ok-object in
