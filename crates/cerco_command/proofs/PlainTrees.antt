@@ -1,5 +1,5 @@
 -- What a program of port writes has in its text: the brace that opens it, and four tokens at least for each value.
-use Rattle.std.proofs.Common.{◌≡◌, ℕ, ◌+◌, ◌*◌, ◌<◌, ◌≤◌, List, [], ◌∷◌, ◌++◌, length, map, Bool, true, false, ◌&&◌, Option, Some, None, refl, sym, ap, arith, subst, All, cond, append-nil}
+use Rattle.std.proofs.Common.{◌≡◌, ℕ, ◌+◌, ◌*◌, ◌<◌, ◌≤◌, List, [], ◌∷◌, ◌++◌, length, Bool, true, false, ◌&&◌, Option, Some, None, refl, sym, ap, arith, subst, All, cond, append-nil}
 use Rattle.std.specs.Prelude.{option_map, nat_lt}
 use Rattle.std.specs.List.{flat_map}
 use Rattle.std.proofs.lemmas.List.{length-append, length-map}
@@ -9,11 +9,10 @@ use Rattle.clight_syntax.specs.declared.symbol.Terminal.{Terminal}
 use Rattle.clight_syntax.specs.declared.symbol.Symbol.TheVariants.{Semicolon, LeftBrace}
 use Rattle.clight_syntax.specs.Spelling.{terminal, expr_terminals, stmt_terminals, stmts_terminals, header_terminals, local_terminals, function_terminals, items_terminals}
 use Rattle.clight_syntax.specs.Symbols.{names_of, terminal_of, terminals_of}
-use Rattle.clight_syntax.specs.SourceTrees.{IsTreeOf, IsSourceTree}
 use Rattle.clight_syntax.specs.Tokens.{Token, AreAscending}
 use Rattle.clight_syntax.specs.Trees.{Expr, Variable, Number, Parenthesis, Binary, Prefix, Cast, Index, Select, Stmt, Empty, Block, Assign, ReadPort, WritePort, CallOf, If, IfElse, While, Do, For, Break, Continue, Return, Stmts, NoStmts, Then, Function, Item, StructItem, GlobalItem, PrototypeItem, FunctionItem}
 use Rattle.clight_tokens.proofs.Spans.{ascending_whole}
-use Rattle.cerco_command.specs.PlainPrograms.{plain_value, plain_write, with_value, plain_writes, is_main, is_empty, Plain, with_body, plain_function, plain_items, plain_program, IsPlainProgram}
+use Rattle.cerco_command.specs.PlainPrograms.{plain_value, plain_write, with_value, plain_writes, is_main, is_empty, Plain, with_body, plain_items, IsPlainProgram}
 
 -- ---- tokens
 
@@ -176,9 +175,9 @@ module _ (text : List ℕ) (plain : Plain) (p : IsPlainProgram text plain) where
       let there = ap length spelled in
       let body = front_at_least (4 * length plain.values) (stmts_terminals f.body) _ (writes_size f.body plain.values main.writes) in
       let whole =
-          front_at_least (4 * length plain.values) (function_terminals f) []
-          (behind_at_least (4 * length plain.values) (header_terminals f.header) _
-          (behind_at_least (4 * length plain.values) (terminal LeftBrace f.left ∷ flat_map local_terminals f.locals) _ body)) in
+      front_at_least (4 * length plain.values) (function_terminals f) []
+      (behind_at_least (4 * length plain.values) (header_terminals f.header) _
+      (behind_at_least (4 * length plain.values) (terminal LeftBrace f.left ∷ flat_map local_terminals f.locals) _ body)) in
       let short = p.is_tree.tokens.source.short in
       omega arith
 

@@ -1,12 +1,5 @@
 -- How long the objects of programs of port writes are.
-use Rattle.std.proofs.Common.{◌≡◌, ℕ, zero, suc, ◌*◌, ◌<◌, ◌≤◌, List, [], ◌∷◌, ◌++◌, length, map, Bool, true, false, nat_eq, ◌||◌, refl, sym, ap, arith, decimal, All, codes, append-nil, subst}
-use Rattle.std.specs.List.{flat_map, list_any, starts_with}
-use Rattle.std.proofs.lemmas.Bool.Decides.{nat_tests}
-use Rattle.std.proofs.lemmas.Fmt.{decimal_nonempty}
-use Rattle.std.proofs.lemmas.List.{length-append}
-use Rattle.std.proofs.lemmas.List.Elements.{All-head, All-tail}
-use Rattle.clight_syntax.specs.Erasure.{HasNoMarker}
-use Rattle.clight_syntax.proofs.DecimalTexts.{list_all-decimal, list_any-digits}
+use Rattle.std.proofs.Common.{◌≡◌, ℕ, ◌*◌, ◌≤◌, List, [], ◌∷◌, length, map, refl, arith, append-nil, subst}
 use Rattle.mcs51_isa.specs.declared.instr.Instr.TheVariants.{Return}
 use Rattle.mcs51_isa.specs.declared.instr.ReturnKind.TheVariants.{Ret}
 use Rattle.sim51.specs.Placed.{bytes_of, Stands}
@@ -29,4 +22,3 @@ code_fits values few =
 pub stands : (values : List ℕ) → 4 * length values ≤ 65535 → Stands (code values) 0 (instructions values)
 stands values few =
     subst (λ (l : List ℕ). Stands l 0 (instructions values)) (append-nil (code values)) (instrs_there (instructions values) [] [] (let f = code_fits values few in omega arith))
-

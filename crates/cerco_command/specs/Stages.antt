@@ -15,7 +15,7 @@ use Rattle.sim51.specs.Runs.{events_of}
 use Rattle.cerco_command.specs.Words.{BuildFiles}
 use Rattle.cerco_command.specs.Answers.{NamedText, AreWritten, ArePartlyWritten}
 use Rattle.cerco_command.specs.Building.{AreCompiled, SaysRefused, outputs}
-use Rattle.cerco_command.specs.Messages.{unsupported, file_fault, event_lines, reserved_line}
+use Rattle.cerco_command.specs.Messages.{file_fault, event_lines, reserved_line}
 use Rattle.cerco_command.specs.Running.{Stops}
 use Rattle.cerco_command.specs.Disassembly.{listed_at}
 use Rattle.cerco_command.specs.declared.reply.Reply.{Reply}

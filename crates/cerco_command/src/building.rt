@@ -14,8 +14,8 @@ ghost use Rattle.cerco_command.specs.Building.{AreCompiled, outputs, BuildMeans}
 ghost use Rattle.cerco_command.specs.Stages.{WritesAll, Finishes, BuildsOn};
 
 use crate::inputs::read_input;
-use crate::port_object::{PortObject, compile};
 use crate::plain_program::{PlainProgram, plain_program};
+use crate::port_object::{PortObject, compile};
 use crate::refusal::refused;
 use crate::reply::{Reply, file_fault, silent, unsupported};
 use crate::status::Status;
@@ -125,7 +125,7 @@ fn finish<F: Files>(alloc: Global, files: &mut F, names: &BuildNames, texts: &Te
     }
 }
 
-// The syntax tree of a source.
+// The syntax tree of a source, or the first reason why it has none.
 fn read_tree(alloc: Global, source: &[u8]) -> Result<Program, Fault>
     ensures tree { IfOk result (λ tree. IsSourceTree source.now (program_of tree)) }
     ensures fault { IfErr result (IsNotRead source.now) }
@@ -167,7 +167,8 @@ fn build_on<F: Files>(alloc: Global, names: &BuildNames, source: &[u8], files: &
     }
 }
 
-/// Compiles a source and writes the object, its labels and the annotated source.
+/// Compiles a source of at most 65,535 bytes, and writes the object, its labels and the annotated source. A source is refused
+/// by the first reason that it has, or, where it has a syntax tree, unless `main` does nothing but write numbers to port 1.
 pub fn build<F: Files>(alloc: Global, names: &BuildNames, files: &mut F) -> Reply
     requires { HaveDifferentNames (files_of names.now) }
     ensures { BuildMeans (files_of names.now) (F.state files.old) (F.state files.new) result.status (string_bytes result.line) }

@@ -86,7 +86,8 @@ fn too_long(alloc: Global) -> Reply
     }
 }
 
-/// The source is refused.
+/// The source is refused for this reason. The line has the reason's number, its word, and its place as a byte offset or the
+/// count that is too large.
 pub fn refused(alloc: Global, reason: Reason) -> Reply
     ensures { Replies Is.Refused (s.refused reason) result.status (string_bytes result.line) }
 {
