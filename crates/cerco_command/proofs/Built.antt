@@ -14,7 +14,7 @@ use Rattle.cerco_command.specs.Answers.{AreWritten, ArePartlyWritten}
 use Rattle.cerco_command.specs.Building.{AreCompiled, outputs, SaysRefused, Builds, PartlyBuilds, IsOutput, BuildMeans}
 use Rattle.cerco_command.specs.Inputs.{IsRead, CannotRead}
 use Rattle.cerco_command.specs.Messages.{no_file}
-use Rattle.cerco_command.specs.Stages.{IsNameOf, BuildsOn}
+use Rattle.cerco_command.specs.Stages.{IsNameOf, Finishes, BuildsOn}
 use Rattle.cerco_command.proofs.Writing.{written_from, partly_from}
 use Rattle.cerco_command.specs.declared.status.Status.{Status}
 use Rattle.cerco_command.specs.declared.status.Status.TheVariants.{Done, NoFile, Refused, FileFault, NoMemory}
@@ -97,6 +97,12 @@ whole_other text all e o = subst IsOtherProgram (whole text all e o.is_tree.toke
 whole_refused : (text all line : List ℕ) → text ≡ take 65536 all → SaysRefused text line → SaysRefused all line
 whole_refused text all line e (inl h) = inl (h.0, whole_reason text all h.0 e h.1, h.2)
 whole_refused text all line e (inr h) = inr (whole_other text all e h.0, h.1)
+
+-- the texts of the source are made, and written or not
+pub made : (files : BuildFiles) (source hex map annotated : List ℕ) (s t : FilesState) (status : Status) (line : List ℕ) → AreCompiled source hex map annotated → Finishes (outputs files hex map annotated) s t status line → BuildsOn files source s t status line
+made files source hex map annotated s t Refused line texts f = absurd f.0
+made files source hex map annotated s t NoMemory line texts f = inr (record { hex = hex; map = map; annotated = annotated; texts = texts; finishes = f })
+made files source hex map annotated s t status line texts f = record { hex = hex; map = map; annotated = annotated; texts = texts; finishes = f }
 
 module _ (files : BuildFiles) (text : List ℕ) (s t u : FilesState) (later : s.faults ≤ t.faults) (read : IsTrue s.known → IsRead 65536 s files.source text) (same : IsTrue s.known → SameFiles s t) (known : IsTrue s.known → IsTrue t.known) where
   source_read : (hex map annotated : List ℕ) → AreCompiled text hex map annotated → (h : IsTrue s.known) → s.file files.source ≡ Some text

@@ -12,13 +12,13 @@ use Rattle.std.specs.List.{flat_map}
 use Rattle.cerco_base.specs.States.{SinkState}
 use Rattle.cerco_base.specs.Calls.{PutsText}
 use Rattle.cerco_base.specs.declared.faults.IoFault.{IoFault}
-use Rattle.clight_syntax.specs.Annotations.{annotated, numbers_of}
+use Rattle.clight_syntax.specs.Annotations.{Costs, annotated, numbers_of}
 use Rattle.clight_syntax.specs.Erasure.{erased, HasNoMarker}
 use Rattle.clight_syntax.specs.Numbers.{numbers}
 use Rattle.clight_syntax.specs.declared.points.Point.{Point}
-use Rattle.cerco_command.specs.PlainPrograms.{Plain, IsPlainProgram}
+use Rattle.cerco_command.specs.PlainPrograms.{Plain, IsPlainProgram, points}
 use Rattle.cerco_command.proofs.PlainTrees.{few, are_bytes}
-use Rattle.cerco_command.specs.PortObjects.{write, code, labels, costs, points}
+use Rattle.cerco_command.specs.PortObjects.{write, code, labels, costs}
 use Rattle.cerco_command.specs.Building.{IsCompiled, AreCompiled}
 use Rattle.object_hex.specs.HexText.{hex_text}
 use Rattle.object_hex.specs.MapText.{map_text}
@@ -68,12 +68,14 @@ labels_mean = map_text-means labels (lit≤ tt) small (λ i j before within. abs
     small : All (λ address. address < 65536) labels
     small = grind arith
 
-pub compiled : (source text : List ℕ) (plain : Plain) → IsPlainProgram source plain → erased text ≡ source → numbers text ≡ flat_map (λ (point : Point). numbers_of (costs plain.values) point.piece) (points plain.body) → IsCompiled source (code plain.values) labels text
-compiled source text plain p erases said =
+pub compiled : (source text : List ℕ) (plain : Plain) (marks : Costs) → IsPlainProgram source plain → text ≡ annotated source (points plain.body) marks → erased text ≡ source → numbers text ≡ flat_map (λ (point : Point). numbers_of (costs plain.values) point.piece) (points plain.body) → IsCompiled source (code plain.values) labels text
+compiled source text plain marks p annotations erases said =
     record {
       plain = plain;
       program = p;
       headline = headline_holds (code plain.values) plain.values (stands plain.values (few source plain p)) text (said ∙ ap (λ c. 4 ∷ c ∷ []) (cost_of_body plain.values));
+      costs = marks;
+      annotations = annotations;
       erases = erases;
     }
 
@@ -92,5 +94,7 @@ texts_made source plain hex map text object addresses labelled pts start p objec
       labels = labels;
       is_code = subst (λ (x : List ℕ). IsHexText x (code values)) (sym (hex_is ∙ ap hex_text object_is)) (hex_text-means (code values) (code_fits values (few source plain p)) (code_bytes values (are_bytes source plain p)));
       are_labels = subst (λ (x : List ℕ). IsMapText x labels) (sym (map_is ∙ ap map_text addresses_are)) labels_mean;
-      compiled = compiled source text plain p (ap erased text_is ∙ erases none) said;
+      compiled =
+          compiled source text plain (record { start = start; labels = labelled }) p
+          (text_is ∙ ap (λ (ps : List Point). annotated source ps (record { start = start; labels = labelled })) points_are) (ap erased text_is ∙ erases none) said;
     }

@@ -4,6 +4,8 @@ use Rattle.std.specs.Prelude.{◌≡◌, ℕ, List, [], ◌∷◌, Some, None, I
 use Rattle.cerco_base.specs.Causes.{Rose}
 use Rattle.cerco_base.specs.States.{FilesState, SameFiles}
 use Rattle.cerco_base.specs.Headline.{Headline}
+use Rattle.clight_syntax.specs.Annotations.{Costs}
+use Rattle.clight_syntax.specs.Annotations.{annotated as annotated_text}
 use Rattle.clight_syntax.specs.Erasure.{erased}
 use Rattle.clight_syntax.specs.Numbers.{cost_at}
 use Rattle.object_hex.specs.HexMeaning.{IsHexText}
@@ -12,7 +14,7 @@ use Rattle.sim51.specs.Runs.{object, cycles_of_run}
 use Rattle.cerco_command.specs.Words.{BuildFiles}
 use Rattle.cerco_base.specs.declared.reasons.Reason.{Reason}
 use Rattle.clight_reader.specs.Reasons.{HasReason}
-use Rattle.cerco_command.specs.PlainPrograms.{Plain, IsPlainProgram, IsOtherProgram, meaning}
+use Rattle.cerco_command.specs.PlainPrograms.{Plain, IsPlainProgram, IsOtherProgram, points, meaning}
 use Rattle.cerco_command.specs.Refusals.{refused}
 use Rattle.cerco_command.specs.Answers.{NamedText, ArePartlyWritten}
 use Rattle.cerco_command.specs.Messages.{no_file, unsupported, file_fault}
@@ -21,12 +23,14 @@ use Rattle.cerco_command.specs.declared.status.Status.TheVariants.{Done, NoFile,
 
 -- The headline. The source is a program, and the object does what the program means: for every port script and number n, after
 -- exactly as many cycles as the cost variable of the annotated source holds at its n-th stop, it has made exactly the labels,
--- port readings and port writings of the meaning, and has ended exactly if the meaning has. The annotated source without its
--- annotations is the source.
+-- port readings and port writings of the meaning, and has ended exactly if the meaning has. The annotated source is the source with
+-- its annotations at their places; without them it is the source.
 pub record IsCompiled (source code labels annotated : List ℕ) : Type 0 where
   pub plain : Plain
   pub program : IsPlainProgram source plain
   pub headline : Headline (meaning plain.values) (object code labels) cycles_of_run (cost_at annotated)
+  pub costs : Costs
+  pub annotations : annotated ≡ annotated_text source (points plain.body) costs
   pub erases : erased annotated ≡ source
 
 -- The texts of an object to which the source is compiled: its code, the addresses of its labels, and the annotated source.

@@ -7,6 +7,8 @@ use Rattle.cerco_base.specs.declared.events.Event.TheVariants.{Write}
 use Rattle.cerco_base.specs.declared.events.Port.TheVariants.{P1}
 use Rattle.cerco_base.specs.Events.{label, Stopped, Ended}
 use Rattle.cerco_base.specs.Preservation.{Source, Stops}
+use Rattle.clight_syntax.specs.declared.points.Point.{Point}
+use Rattle.clight_syntax.specs.declared.points.Piece.TheVariants.{Start, After}
 use Rattle.clight_syntax.specs.declared.tree.Specifiers.{Specifiers}
 use Rattle.clight_syntax.specs.declared.tree.Specifiers.TheVariants.{Void}
 use Rattle.clight_syntax.specs.SourceTrees.{IsSourceTree}
@@ -84,6 +86,10 @@ pub record IsOtherProgram (text : List ℕ) : Type 0 where
   pub tree : Program
   pub is_tree : IsSourceTree text tree
   pub other : plain_program tree ≡ None
+
+-- where its annotations stand: at the text's start, and with label 0 behind the brace that opens `main`
+abbrev pub points : ℕ → List Point
+points body = record { at = 0; piece = Start } ∷ record { at = body; piece = After (record { 0 = 0 }) } ∷ []
 
 -- a byte is written to port 1
 abbrev pub writes : ℕ → Event

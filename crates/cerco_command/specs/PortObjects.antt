@@ -7,8 +7,6 @@ use Rattle.mcs51_isa.specs.declared.instr.ReturnKind.TheVariants.{Ret}
 use Rattle.mcs51_isa.specs.Table.{cycles_of}
 use Rattle.sim51.specs.Placed.{code_of_instrs}
 use Rattle.clight_syntax.specs.Annotations.{Costs}
-use Rattle.clight_syntax.specs.declared.points.Point.{Point}
-use Rattle.clight_syntax.specs.declared.points.Piece.TheVariants.{Start, After}
 
 -- sets the stack up from address 80H on, and calls `main`
 abbrev pub start : List Instr
@@ -45,7 +43,3 @@ cost_of = sum_by cycles_of
 -- the cost of the start, and that of label 0
 abbrev pub costs : List ℕ → Costs
 costs values = record { start = cost_of start; labels = cost_of (body values) ∷ [] }
-
--- where the annotations stand: at the text's start, and behind the brace that opens `main`
-abbrev pub points : ℕ → List Point
-points body = record { at = 0; piece = Start } ∷ record { at = body; piece = After (record { 0 = 0 }) } ∷ []

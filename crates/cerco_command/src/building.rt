@@ -6,9 +6,8 @@ ghost use Rattle.clight_syntax.specs.Annotations.{annotated as annotated_text};
 ghost use Rattle.clight_reader.specs.Reasons.{IsNotRead};
 ghost use Rattle.clight_syntax.specs.SourceTrees.{IsSourceTree};
 ghost use Rattle.clight_syntax.specs.Views.{program_of};
-ghost use Rattle.cerco_command.specs.PlainPrograms.{IsPlainProgram};
+ghost use Rattle.cerco_command.specs.PlainPrograms.{IsPlainProgram, points};
 ghost use Rattle.cerco_command.specs.PlainViews.{plain_of};
-ghost use Rattle.cerco_command.specs.PortObjects.{points};
 ghost use Rattle.cerco_command.specs.Words.{files_of, HaveDifferentNames};
 ghost use Rattle.cerco_command.specs.Building.{AreCompiled, outputs, BuildMeans};
 ghost use Rattle.cerco_command.specs.Stages.{WritesAll, Finishes, BuildsOn};
@@ -168,7 +167,7 @@ fn build_on<F: Files>(alloc: Global, names: &BuildNames, source: &[u8], files: &
 }
 
 /// Compiles a source of at most 65,535 bytes, and writes the object, its labels and the annotated source. A source is refused
-/// by the first reason that it has, or, where it has a syntax tree, unless `main` does nothing but write numbers to port 1.
+/// for the first reason why it has no syntax tree, and so far also where the tree does more than write numbers to port 1.
 pub fn build<F: Files>(alloc: Global, names: &BuildNames, files: &mut F) -> Reply
     requires { HaveDifferentNames (files_of names.now) }
     ensures { BuildMeans (files_of names.now) (F.state files.old) (F.state files.new) result.status (string_bytes result.line) }
