@@ -1,8 +1,9 @@
-//! The reader of the C profile: from terminal symbols to the syntax tree.
+//! Reads a source: tokens, and the syntax tree that they spell.
 #![tactic(auto)]
 
 pub mod declaration_nodes;
 pub mod forms;
+pub mod machine;
 pub mod nodes;
 pub mod part;
 pub mod statement_nodes;
