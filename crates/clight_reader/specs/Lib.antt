@@ -6,3 +6,4 @@ pub mod Statements
 pub mod Declarations
 pub mod Machine
 pub mod Views
+pub mod Branches
