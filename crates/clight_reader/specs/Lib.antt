@@ -7,3 +7,4 @@ pub mod Declarations
 pub mod Machine
 pub mod Views
 pub mod Branches
+pub mod Closings

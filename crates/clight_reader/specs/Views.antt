@@ -218,6 +218,14 @@ statement_mode (s.PortWord port) k = o.PortWord port k
 statement_mode (s.FirstArgument target function left) k = o.FirstArgument target function left k
 statement_mode (s.End pending) k = o.StatementEnd (pending_of pending) k
 
+abbrev pub initialiser_mode : InitialiserMode → o.Mode limited
+initialiser_mode (i.Start x equals) = o.InitialiserStart (declaration_of x) equals
+initialiser_mode (i.Number x equals minus) = o.InitialiserNumber (declaration_of x) equals minus
+initialiser_mode (i.End x initialiser) = o.InitialiserEnd (declaration_of x) (initialiser_of initialiser)
+initialiser_mode (i.ListStart v) = o.ListStart (number_list v)
+initialiser_mode (i.ListNumber v minus) = o.ListNumber (number_list v) minus
+initialiser_mode (i.ListEnd v number) = o.ListEnd (number_list v) number
+
 abbrev pub declaration_mode : DeclarationMode → o.Mode limited
 declaration_mode d.ItemStart = o.ItemStart
 declaration_mode (d.TypeStart owner) = o.TypeStart (owner_of owner)
@@ -231,15 +239,9 @@ declaration_mode (d.LengthEnd owner x left number span) = o.LengthEnd (owner_of 
 declaration_mode (d.Members front v) = o.Members (struct_front front) (members_note v)
 declaration_mode (d.StructEnd front v right) = o.StructEnd (struct_front front) (members_note v) right
 declaration_mode (d.HeaderEnd x) = o.HeaderEnd (header_note x)
+declaration_mode (d.Initialiser x) = initialiser_mode x
 declaration_mode (d.Finished x) = o.Finished (item_note x)
-
-abbrev pub initialiser_mode : InitialiserMode → o.Mode limited
-initialiser_mode (i.Start x equals) = o.InitialiserStart (declaration_of x) equals
-initialiser_mode (i.Number x equals minus) = o.InitialiserNumber (declaration_of x) equals minus
-initialiser_mode (i.End x initialiser) = o.InitialiserEnd (declaration_of x) (initialiser_of initialiser)
-initialiser_mode (i.ListStart v) = o.ListStart (number_list v)
-initialiser_mode (i.ListNumber v minus) = o.ListNumber (number_list v) minus
-initialiser_mode (i.ListEnd v number) = o.ListEnd (number_list v) number
+declaration_mode d.Refused = o.Refused
 
 -- the mode with the open forms
 abbrev pub mode_of : Mode → List (o.Form limited) → o.Mode limited
@@ -250,5 +252,4 @@ mode_of (m.CastTag left keyword) k = o.CastTag left keyword k
 mode_of (m.CastWords left type) k = o.CastWords left type k
 mode_of (m.Statement x) k = statement_mode x k
 mode_of (m.Declaration x) k = declaration_mode x
-mode_of (m.Initialiser x) k = initialiser_mode x
 mode_of m.Refused k = o.Refused

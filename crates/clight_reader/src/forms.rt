@@ -125,8 +125,6 @@ pub enum Mode {
     Statement(StatementMode),
     /// Something in a declaration is due.
     Declaration(DeclarationMode),
-    /// Something in the first value of a global is due.
-    Initialiser(InitialiserMode),
     /// No program goes on so.
     Refused,
 }
@@ -189,10 +187,14 @@ pub enum DeclarationMode {
     Members(StructFront, Noted<Vec<Member>>),
     /// Behind the `}` of a struct: `;` is due.
     StructEnd(StructFront, Noted<Vec<Member>>, Span),
+    /// In the first value of a global.
+    Initialiser(InitialiserMode),
     /// Behind the `)` of a function's parameters: `;` or `{`.
     HeaderEnd(Noted<Header>),
     /// An item is whole.
     Finished(Noted<Item>),
+    /// No program goes on so.
+    Refused,
 }
 
 /// What may come next in the first value of a global.

@@ -5,11 +5,11 @@ ghost use Rattle.clight_reader.specs.Builds.{limited};
 ghost use Rattle.clight_reader.specs.Expressions as s;
 ghost use Rattle.clight_reader.specs.Branches as r;
 ghost use Rattle.clight_reader.specs.Forms as o;
-ghost use Rattle.clight_reader.specs.Views.{expr_part, forms, mode_of};
+ghost use Rattle.clight_reader.specs.Views.{expr_part, place_of, forms, mode_of};
 
 use crate::forms::{Form, Mode, Pending, Place, StatementMode};
 use crate::machine::operators::is_target;
-use crate::machine::stack::{operand_in, pop, push, refuse, refuse_behind};
+use crate::machine::stack::{operand_in, pop, push, refuse, refuse_behind, refuse_operand};
 use crate::machine::words::{first_word, next_word};
 use crate::nodes::{constant, select, variable};
 use crate::part::Part;
@@ -54,13 +54,28 @@ fn cast_tag(stack: &mut Vec<Form>, at: Span) -> Mode
     }
 }
 
+fn refuse_target(_place: Place, _target: Part<Expr>) -> Mode
+    ensures { result ≡ Mode.Refused }
+{
+    Mode::Refused
+}
+
+fn read_value(at: Span, place: Place, target: Part<Expr>, equals: Span) -> Mode
+    ensures { (k : List (o.Form limited)) → mode_of result k ≡ r.read_value at (place_of place) (expr_part target) equals k }
+{
+    match place {
+        Place::AsStatement => {
+            Mode::Statement(StatementMode::End(Pending::Read(target, equals, at)))
+        }
+        other => refuse_target(other, target),
+    }
+}
+
 fn read_pending(stack: &mut Vec<Form>, at: Span) -> Mode
     ensures { mode_of result (forms stack.new.items) ≡ s.read_pending at (forms stack.old.items) }
 {
     match pop(stack) {
-        Some(Form::Value(Place::AsStatement, target, equals)) => {
-            Mode::Statement(StatementMode::End(Pending::Read(target, equals, at)))
-        }
+        Some(Form::Value(place, target, equals)) => read_value(at, place, target, equals),
         Some(other) => refuse(other),
         None => Mode::Refused,
     }
@@ -92,12 +107,6 @@ pub fn operand(stack: &mut Vec<Form>, t: Terminal) -> Result<Mode, NoMemory>
         Symbol::PortOne => Ok(read_pending(stack, t.span)),
         _ => Ok(first_in_cast(stack, t)),
     }
-}
-
-fn refuse_operand(_e: Part<Expr>) -> Mode
-    ensures { result ≡ Mode.Refused }
-{
-    Mode::Refused
 }
 
 /// A symbol where the name of a member is due.

@@ -4,10 +4,10 @@ ghost use Rattle.std.specs.Prelude.{◌≡◌, ◌∷◌, [], ◌≤◌, ◌+◌
 ghost use Rattle.clight_reader.specs.Views.{form_of, forms, mode_of};
 ghost use Rattle.clight_reader.specs.Forms as o;
 
-use crate::forms::{Form, Mode};
+use crate::forms::{Form, Mode, StatementMode};
 use crate::part::Part;
 use cerco_base::NoMemory;
-use clight_syntax::tree::Expr;
+use clight_syntax::tree::{Expr, Stmt};
 
 /// Opens a form.
 pub fn push(stack: &mut Vec<Form>, form: Form) -> Result<(), NoMemory>
@@ -46,6 +46,51 @@ pub fn refuse_behind(_form: Form, _e: Part<Expr>) -> Mode
     ensures { result ≡ Mode.Refused }
 {
     Mode::Refused
+}
+
+/// The refusal in place of an operand.
+pub fn refuse_operand(_e: Part<Expr>) -> Mode
+    ensures { result ≡ Mode.Refused }
+{
+    Mode::Refused
+}
+
+/// The refusal in place of a statement.
+pub fn refuse_statement(_x: Part<Stmt>) -> Mode
+    ensures { result ≡ Mode.Refused }
+{
+    Mode::Refused
+}
+
+/// The refusal in place of a form and a statement.
+pub fn refuse_with(_form: Form, _x: Part<Stmt>) -> Mode
+    ensures { result ≡ Mode.Refused }
+{
+    Mode::Refused
+}
+
+/// Opens a form that a statement may begin in.
+pub fn start_in(stack: &mut Vec<Form>, form: Form) -> Result<Mode, NoMemory>
+    ensures { IfOk result (λ m. mode_of m (forms stack.new.items) ≡ o.Statement (form_of form ∷ forms stack.old.items)) }
+{
+    push(stack, form)?;
+    Ok(Mode::Statement(StatementMode::Start))
+}
+
+/// Opens a form that a statement may begin in, as the only one.
+pub fn start_alone(stack: &mut Vec<Form>, form: Form) -> Result<Mode, NoMemory>
+    ensures { IfOk result (λ m. mode_of m (forms stack.new.items) ≡ o.Statement (form_of form ∷ [])) }
+{
+    restart(stack, form)?;
+    Ok(Mode::Statement(StatementMode::Start))
+}
+
+/// Opens a form that an operand is due in, as the only one.
+pub fn operand_alone(stack: &mut Vec<Form>, form: Form) -> Result<Mode, NoMemory>
+    ensures { IfOk result (λ m. mode_of m (forms stack.new.items) ≡ o.Operand (form_of form ∷ [])) }
+{
+    restart(stack, form)?;
+    Ok(Mode::Operand)
 }
 
 /// Opens a form that an operand is due in.
