@@ -1,7 +1,6 @@
 -- The machine run over short texts.
 use Rattle.std.proofs.Common.{◌≡◌, ◌++◌, ℕ, ◌+◌, Bool, true, false, List, [], ◌∷◌, refl}
 use Rattle.std.specs.Prelude.{Option, Some, None, is_some, replicate, option_map}
-use Rattle.clight_syntax.specs.declared.symbol.Literal.{Literal}
 use Rattle.clight_syntax.specs.declared.symbol.Radix.TheVariants.{Decimal}
 use Rattle.clight_syntax.specs.declared.symbol.Symbol.{Symbol}
 use Rattle.clight_syntax.specs.declared.symbol.Symbol.TheVariants as s
@@ -96,6 +95,42 @@ no_lone_else = refl
 -- int x
 no_half_item : accepted (s.Int ∷ x ∷ []) ≡ false
 no_half_item = refl
+
+-- for (x;;) ;
+no_expression_as_first : accepted (body (s.For ∷ s.LeftParenthesis ∷ x ∷ s.Semicolon ∷ s.Semicolon ∷ s.RightParenthesis ∷ s.Semicolon ∷ [])) ≡ false
+no_expression_as_first = refl
+
+-- if (x) int x;
+no_local_as_arm : accepted (body (s.If ∷ s.LeftParenthesis ∷ x ∷ s.RightParenthesis ∷ s.Int ∷ x ∷ s.Semicolon ∷ [])) ≡ false
+no_local_as_arm = refl
+
+-- x = P1 + 1;
+no_port_in_sum : accepted (body (x ∷ s.Assign ∷ s.PortOne ∷ s.Plus ∷ one ∷ s.Semicolon ∷ [])) ≡ false
+no_port_in_sum = refl
+
+-- x = 1 + x();
+no_call_in_sum : accepted (body (x ∷ s.Assign ∷ one ∷ s.Plus ∷ x ∷ s.LeftParenthesis ∷ s.RightParenthesis ∷ s.Semicolon ∷ [])) ≡ false
+no_call_in_sum = refl
+
+-- x = (int *) x;
+no_star_in_cast : accepted (body (x ∷ s.Assign ∷ s.LeftParenthesis ∷ s.Int ∷ s.Star ∷ s.RightParenthesis ∷ x ∷ s.Semicolon ∷ [])) ≡ false
+no_star_in_cast = refl
+
+-- int unsigned x;
+no_int_unsigned : accepted (s.Int ∷ s.Unsigned ∷ x ∷ s.Semicolon ∷ []) ≡ false
+no_int_unsigned = refl
+
+-- void x(int x[1]);
+no_length_of_parameter : accepted (s.Void ∷ x ∷ s.LeftParenthesis ∷ s.Int ∷ x ∷ s.LeftBracket ∷ one ∷ s.RightBracket ∷ s.RightParenthesis ∷ s.Semicolon ∷ []) ≡ false
+no_length_of_parameter = refl
+
+-- struct x *x(void);
+struct_result : accepted (s.Struct ∷ x ∷ s.Star ∷ x ∷ s.LeftParenthesis ∷ s.Void ∷ s.RightParenthesis ∷ s.Semicolon ∷ []) ≡ true
+struct_result = refl
+
+-- unsigned long int x;
+long_words : spelling (s.Unsigned ∷ s.Long ∷ s.Int ∷ x ∷ s.Semicolon ∷ []) ≡ Some (text (s.Unsigned ∷ s.Long ∷ s.Int ∷ x ∷ s.Semicolon ∷ []))
+long_words = refl
 
 -- x = 1; with 1 in n parentheses, in a body
 abbrev nested : ℕ → List Symbol

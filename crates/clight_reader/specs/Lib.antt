@@ -1,3 +1,4 @@
+pub mod Faults
 pub mod Builds
 pub mod Nodes
 pub mod Forms
@@ -8,3 +9,4 @@ pub mod Machine
 pub mod Views
 pub mod Branches
 pub mod Closings
+pub mod Readings

@@ -5,8 +5,8 @@ pub mod declaration_nodes;
 pub mod forms;
 pub mod machine;
 pub mod nodes;
-pub mod parse;
 pub mod part;
+pub mod reading;
 pub mod statement_nodes;
 
 #[cfg(test)]

@@ -1,4 +1,4 @@
-use crate::parse::parse_terminals;
+use crate::reading::parse_terminals;
 use clight_syntax::span::Span;
 use clight_syntax::symbol::{Symbol, Terminal};
 use std::test::Fail;
