@@ -5,7 +5,7 @@
 --
 -- The program has `Part<T>`, `Noted<T>` and `Statements` for the three records here, and a function for each definition over
 -- them, in the form that it has at `limited`.
-use Rattle.std.specs.Prelude.{◌≤◌, ℕ, ◌+◌, min, max, cond, nat_le, nat_lt, List, [], ◌∷◌, ◌++◌, length, Option, Some, None, false}
+use Rattle.std.specs.Prelude.{ℕ, ◌+◌, min, max, cond, nat_le, nat_lt, length, Option, Some, None, false}
 use Rattle.clight_syntax.specs.declared.span.Span.{Span}
 use Rattle.clight_syntax.specs.declared.symbol.Literal.{Literal}
 use Rattle.clight_syntax.specs.declared.symbol.Radix.TheVariants.{Decimal}

@@ -147,8 +147,8 @@ initialiser_number x equals minus (s.Number number) a = InitialiserEnd x (Single
 initialiser_number x equals minus _ a = Refused
 
 abbrev pub initialiser_end : (b : Build) → Declaration → Initialiser → Symbol → Span → Mode b
-initialiser_end b x initialiser s.Semicolon a = Finished (global_item b x initialiser a)
-initialiser_end b x initialiser _ a = Refused
+initialiser_end b x i s.Semicolon a = Finished (global_item b x i a)
+initialiser_end b x i _ a = Refused
 
 abbrev pub list_start : {b : Build} → NumberList → Symbol → Span → Mode b
 list_start l s.Minus a = ListNumber l a

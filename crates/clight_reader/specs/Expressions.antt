@@ -4,18 +4,16 @@ use Rattle.std.specs.Prelude.{â„•, Bool, true, false, cond, nat_le, List, [], â—
 use Rattle.clight_syntax.specs.declared.span.Span.{Span}
 use Rattle.clight_syntax.specs.declared.symbol.Symbol.{Symbol}
 use Rattle.clight_syntax.specs.declared.symbol.Symbol.TheVariants as s
-use Rattle.clight_syntax.specs.declared.tree.Name.{Name}
 use Rattle.clight_syntax.specs.declared.tree.BinaryOperator.{BinaryOperator}
 use Rattle.clight_syntax.specs.declared.tree.BinaryOperator.TheVariants as o
 use Rattle.clight_syntax.specs.declared.tree.PrefixOperator.TheVariants as p
 use Rattle.clight_syntax.specs.declared.tree.MemberOperator.{MemberOperator}
-use Rattle.clight_syntax.specs.declared.tree.MemberOperator.TheVariants as m
 use Rattle.clight_syntax.specs.declared.tree.Specifiers.{Specifiers}
 use Rattle.clight_syntax.specs.declared.tree.Specifiers.TheVariants as t
 use Rattle.clight_syntax.specs.Spelling.{level, unary_level, postfix_level}
 use Rattle.clight_reader.specs.Builds.{Build}
 use Rattle.clight_reader.specs.Nodes.{ExprOf, variable, constant, binary, prefix, cast, select, make_name}
-use Rattle.clight_reader.specs.Forms.{Place, AsStatement, Form, InBinary, InPrefix, InCast, InParenthesis, InIndex, InTarget, InValue, Mode, Operand, Behind, MemberName, CastTag, CastWords, StatementEnd, ReadPending, Refused}
+use Rattle.clight_reader.specs.Forms.{AsStatement, Form, InBinary, InPrefix, InCast, InParenthesis, InTarget, InValue, Mode, Operand, Behind, CastTag, CastWords, StatementEnd, ReadPending, Refused}
 
 -- ---- the words of a type
 
