@@ -10,3 +10,4 @@ pub mod Views
 pub mod Branches
 pub mod Closings
 pub mod Readings
+pub mod Answers

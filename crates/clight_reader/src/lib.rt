@@ -6,8 +6,11 @@ pub mod forms;
 pub mod machine;
 pub mod nodes;
 pub mod part;
+pub mod program;
 pub mod reading;
 pub mod statement_nodes;
+
+pub use program::parse;
 
 #[cfg(test)]
 mod tests;
