@@ -10,3 +10,5 @@ pub mod Systems
 pub mod Preservation
 pub mod Headline
 pub mod LabelledGraphs
+pub mod CallOrder
+pub mod CallOrderView

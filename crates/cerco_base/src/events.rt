@@ -23,3 +23,19 @@ pub enum Event {
     /// This byte is written to the latch of a port.
     Write(Port, u8),
 }
+
+/// A fault of the meaning of a source, at which its run has no further meaning.
+#[derive(Clone, Copy, Debug, PartialEq, Eq)]
+pub enum FaultKind {
+    /// A scalar is read that was never set.
+    Unset,
+    /// A null pointer is used, a pointer leaves its variable, or it is used at a place of another
+    /// type.
+    Outside,
+    /// A pointer to a variable that is no more is used other than by copying it.
+    Dead,
+    /// The right operand of `/` or `%` is 0.
+    Zero,
+    /// Two pointers are compared whose comparison has no meaning.
+    Compare,
+}

@@ -1,7 +1,9 @@
-//! What every crate of the compiler stands on: labels, ports and events, and the world outside the
-//! program with its files and outputs.
+//! What every crate of the compiler stands on: labels, ports and events, the reasons for which a
+//! source is refused, the order of calls, and the world outside the program with its files and
+//! outputs.
 #![tactic(auto)]
 
+pub mod call_order;
 pub mod events;
 pub mod faults;
 pub mod file_sink;
@@ -9,18 +11,21 @@ pub mod host;
 pub mod lists;
 pub mod memory;
 pub mod outside;
+pub mod reasons;
 pub mod sound;
 pub mod store;
 #[cfg(test)]
 mod tests;
 pub mod transfer;
 
-pub use events::{Event, Label, Port};
+pub use call_order::CallOrder;
+pub use events::{Event, FaultKind, Label, Port};
 pub use faults::{IoFault, NoMemory, ReadFault};
 pub use file_sink::FileSink;
 pub use host::{HostFiles, HostOut};
-pub use lists::{Code, LabelList};
+pub use lists::{Code, LabelList, StartBytes};
 pub use memory::{MemoryFiles, MemorySink};
 pub use outside::{Files, Sink};
+pub use reasons::{Fault, NameKind, Reason, TypeKind};
 pub use sound::{SoundFiles, SoundSink};
 pub use transfer::{put_all, read_whole, write_file};

@@ -1,4 +1,4 @@
-//! Object code and the addresses of its labels.
+//! Object code, the addresses of its labels, and the bytes that its start writes.
 ghost use Rattle.std.specs.Prelude.{◌≡◌, ◌++◌, ◌∷◌, [], OnOk, OnErr};
 
 use crate::faults::NoMemory;
@@ -84,5 +84,47 @@ impl LabelList {
         ensures { result.now ≡ self.now }
     {
         self.addresses.as_slice()
+    }
+}
+
+/// The bytes of the initialised variables with their addresses in XRAM, in the order in which the
+/// program's start writes them. Contracts see it as the list of these pairs.
+#[derive(Drop)]
+pub struct StartBytes {
+    bytes: Vec<(u16, u8)>,
+}
+
+impl Model for StartBytes {
+    ghost use Rattle.std.specs.Prelude.{List, ℕ};
+
+    ghost Value = { List (ℕ × ℕ) };
+
+    ghost view = { λ b. b.bytes.items };
+}
+
+impl StartBytes {
+    /// No bytes.
+    pub fn new(alloc: Global) -> StartBytes
+        ensures { result ≡ [] }
+    {
+        StartBytes {
+            bytes: Vec::new(alloc),
+        }
+    }
+
+    /// Adds a byte and its address at the end. After want of memory the list is unchanged.
+    pub fn push(&mut self, at: u16, byte: u8) -> Result<(), NoMemory>
+        ensures added { OnOk result (self.new ≡ self.old ++ (at, byte) ∷ []) }
+        ensures same { OnErr result (self.new ≡ self.old) }
+    {
+        self.bytes.push((at, byte))?;
+        Ok(())
+    }
+
+    /// Its addresses and bytes.
+    pub fn bytes(&self) -> &[(u16, u8)]
+        ensures { result.now ≡ self.now }
+    {
+        self.bytes.as_slice()
     }
 }

@@ -1,6 +1,7 @@
 use crate::{
-    Code, FileSink, Files, HostFiles, HostOut, IoFault, LabelList, MemoryFiles, MemorySink,
-    ReadFault, Sink, SoundFiles, SoundSink, put_all, read_whole, write_file,
+    CallOrder, Code, Fault, FileSink, Files, HostFiles, HostOut, IoFault, LabelList, MemoryFiles,
+    MemorySink, NoMemory, ReadFault, Sink, SoundFiles, SoundSink, StartBytes, put_all, read_whole,
+    write_file,
 };
 use std::alloc::Global;
 use std::process::{self, Abort};
@@ -77,5 +78,19 @@ fn memory_takes_what_is_put(rt: HostRuntime) -> Result<(), Fail> {
     let mut labels = LabelList::new(alloc);
     labels.push(8)?;
     assert_eq!(rt; labels.as_slice(), [8].as_slice());
+    let mut start = StartBytes::new(alloc);
+    start.push(1, 255)?;
+    assert_eq!(rt; start.bytes(), [(1, 255)].as_slice());
+    Ok(())
+}
+
+#[test]
+fn callers_stand_first(rt: HostRuntime) -> Result<(), Fail> {
+    let mut order = CallOrder::new(rt.alloc());
+    order.add(7, &[])?;
+    order.add(2, &[7])?;
+    assert_eq!(rt; order.functions(), [7, 2].as_slice());
+    assert_eq!(rt; order.callers(1), [7].as_slice());
+    assert_eq!(rt; Fault::from(NoMemory), Fault::OutOfMemory);
     Ok(())
 }

@@ -1,8 +1,9 @@
-//! Reads a source: tokens, and the syntax tree that they spell.
+//! Reads a source: so far what its grammar is, as laws over the machine that reads it a token at a time.
 #![tactic(auto)]
 
 pub mod declaration_nodes;
 pub mod forms;
+pub mod laws;
 pub mod machine;
 pub mod nodes;
 pub mod part;

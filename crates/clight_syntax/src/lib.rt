@@ -8,6 +8,8 @@ pub mod points;
 pub mod span;
 pub mod symbol;
 pub mod tree;
+pub mod typed;
+pub mod types;
 pub mod writes;
 
 pub use names::Names;
@@ -16,6 +18,8 @@ pub use points::{Piece, Point, Points};
 pub use span::Span;
 pub use symbol::{Literal, Radix, Symbol, Terminal};
 pub use tree::{Expr, Function, Program, Stmt};
+pub use typed::{Cond, Labelled, Typed, TypedProgram};
+pub use types::Ty;
 pub use writes::PortWrites;
 
 #[cfg(test)]
