@@ -8,9 +8,9 @@ use Rattle.clight_syntax.specs.Spelling.{Spells}
 use Rattle.clight_syntax.specs.Depth.{IsShallow}
 use Rattle.clight_reader.specs.declared.reading.ParseFault.{ParseFault}
 use Rattle.clight_reader.specs.declared.reading.ParseFault.TheVariants.{Syntax, Nesting, OutOfMemory}
-use Rattle.clight_reader.specs.Builds.{limited, Noted}
-use Rattle.clight_reader.specs.Machine.{State, run, start, ends}
-use Rattle.clight_reader.specs.Views.{items}
+use Rattle.clight_parts.specs.Builds.{limited, Noted}
+use Rattle.clight_parts.specs.Machine.{State, run, start, ends}
+use Rattle.clight_parts.specs.Views.{items}
 use Rattle.clight_reader.specs.Readings.{NotesAre, IsFault}
 use Rattle.clight_reader.proofs.LimitedPrograms.{at_items, at_deep}
 use Rattle.std.specs.declared.vec.Vec.{Vec}

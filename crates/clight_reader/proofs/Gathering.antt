@@ -2,18 +2,18 @@
 use Rattle.std.proofs.Common.{◌≡◌, Bool, true, false, List, refl}
 use Rattle.std.specs.Prelude.{Option, Some, None}
 use Rattle.clight_syntax.specs.Trees.{Item}
-use Rattle.clight_reader.specs.declared.forms.Mode.{Mode}
-use Rattle.clight_reader.specs.declared.forms.Mode.TheVariants as m
-use Rattle.clight_reader.specs.declared.forms.StatementMode.{StatementMode}
-use Rattle.clight_reader.specs.declared.forms.StatementMode.TheVariants as s
-use Rattle.clight_reader.specs.declared.forms.DeclarationMode.{DeclarationMode}
-use Rattle.clight_reader.specs.declared.forms.DeclarationMode.TheVariants as d
-use Rattle.clight_reader.specs.declared.forms.InitialiserMode.{InitialiserMode}
-use Rattle.clight_reader.specs.declared.forms.InitialiserMode.TheVariants as i
-use Rattle.clight_reader.specs.Builds.{limited, Noted}
-use Rattle.clight_reader.specs.Forms as o
-use Rattle.clight_reader.specs.Machine.{State, state, gather, ends_in, refused}
-use Rattle.clight_reader.specs.Views.{mode_of, statement_mode, declaration_mode, initialiser_mode}
+use Rattle.clight_parts.specs.declared.forms.Mode.{Mode}
+use Rattle.clight_parts.specs.declared.forms.Mode.TheVariants as m
+use Rattle.clight_parts.specs.declared.forms.StatementMode.{StatementMode}
+use Rattle.clight_parts.specs.declared.forms.StatementMode.TheVariants as s
+use Rattle.clight_parts.specs.declared.forms.DeclarationMode.{DeclarationMode}
+use Rattle.clight_parts.specs.declared.forms.DeclarationMode.TheVariants as d
+use Rattle.clight_parts.specs.declared.forms.InitialiserMode.{InitialiserMode}
+use Rattle.clight_parts.specs.declared.forms.InitialiserMode.TheVariants as i
+use Rattle.clight_parts.specs.Builds.{limited, Noted}
+use Rattle.clight_parts.specs.Forms as o
+use Rattle.clight_parts.specs.Machine.{State, state, gather, ends_in, refused}
+use Rattle.clight_parts.specs.Views.{mode_of, statement_mode, declaration_mode, initialiser_mode}
 
 -- the items stay, and the mode isn't refused
 abbrev pub Stays : Noted (List Item) → o.Mode limited → Type 0

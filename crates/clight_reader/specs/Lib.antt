@@ -1,13 +1,3 @@
 pub mod Faults
-pub mod Builds
-pub mod Nodes
-pub mod Forms
-pub mod Expressions
-pub mod Statements
-pub mod Declarations
-pub mod Machine
-pub mod Views
-pub mod Branches
-pub mod Closings
 pub mod Readings
-pub mod Answers
+pub mod Reasons

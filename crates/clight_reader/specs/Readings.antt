@@ -9,11 +9,11 @@ use Rattle.clight_syntax.specs.Views.{item_of}
 use Rattle.clight_reader.specs.declared.reading.ParseFault.{ParseFault}
 use Rattle.clight_reader.specs.declared.reading.ParseFault.TheVariants.{Syntax, Nesting, OutOfMemory}
 use Rattle.clight_reader.specs.declared.reading.Reading.{Reading}
-use Rattle.clight_reader.specs.Builds.{limited, Noted}
+use Rattle.clight_parts.specs.Builds.{limited, Noted}
 use Rattle.clight_reader.specs.Faults.{FaultAt}
-use Rattle.clight_reader.specs.Forms.{Form}
-use Rattle.clight_reader.specs.Machine.{State, state, refused}
-use Rattle.clight_reader.specs.Views.{items_note, items, mode_of}
+use Rattle.clight_parts.specs.Forms.{Form}
+use Rattle.clight_parts.specs.Machine.{State, state, refused}
+use Rattle.clight_parts.specs.Views.{items_note, items, mode_of}
 use Rattle.std.specs.declared.vec.Vec.{Vec}
 use Rattle.std.specs.Global.{Global}
 

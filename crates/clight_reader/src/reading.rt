@@ -4,16 +4,16 @@ ghost use Rattle.std.specs.Prelude.{◌≡◌, List, map, option_map, IfOk, IfEr
 ghost use Rattle.clight_syntax.specs.Spelling.{Spells};
 ghost use Rattle.clight_syntax.specs.Depth.{IsShallow};
 ghost use Rattle.clight_syntax.specs.Views.{item_of};
-ghost use Rattle.clight_reader.specs.Builds.{limited};
-ghost use Rattle.clight_reader.specs.Forms as o;
-ghost use Rattle.clight_reader.specs.Machine as s;
+ghost use Rattle.clight_parts.specs.Builds.{limited};
+ghost use Rattle.clight_parts.specs.Forms as o;
+ghost use Rattle.clight_parts.specs.Machine as s;
 ghost use Rattle.clight_reader.specs.Readings.{state_of, Advances, NotesAre, IsFault};
-ghost use Rattle.clight_reader.specs.Views.{items_note, forms, declaration_mode};
+ghost use Rattle.clight_parts.specs.Views.{items_note, forms, declaration_mode};
 
-use crate::declaration_nodes::more_items;
-use crate::forms::{DeclarationMode, Form, Mode};
+use clight_parts::declaration_nodes::more_items;
+use clight_parts::forms::{DeclarationMode, Form, Mode};
 use crate::machine::next_mode;
-use crate::part::Noted;
+use clight_parts::part::Noted;
 use cerco_base::NoMemory;
 use clight_syntax::symbol::Terminal;
 use clight_syntax::tree::Item;

@@ -1,6 +1,6 @@
 use Rattle.std.proofs.Common.{◌∙◌, ap, sym, arith}
-use Rattle.clight_reader.specs.Builds.{limited}
-use Rattle.clight_reader.specs.Machine.{State, refused}
+use Rattle.clight_parts.specs.Builds.{limited}
+use Rattle.clight_parts.specs.Machine.{State, refused}
 use Rattle.clight_reader.proofs.LimitedPrograms.{next_reads, at_token, at_end}
 use Rattle.clight_reader.proofs.Answering.{answered}
 use Rattle.clight_reader.proofs.reading.parse_terminals.Goals as goal

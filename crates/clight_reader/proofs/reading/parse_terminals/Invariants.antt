@@ -1,8 +1,8 @@
 use Rattle.std.proofs.Common.{◌≡◌, false, take}
-use Rattle.clight_reader.specs.Builds.{limited}
-use Rattle.clight_reader.specs.Machine.{run, start, refused}
+use Rattle.clight_parts.specs.Builds.{limited}
+use Rattle.clight_parts.specs.Machine.{run, start, refused}
 use Rattle.clight_reader.specs.Readings.{state_of}
-use Rattle.clight_reader.specs.Views.{forms, mode_of}
+use Rattle.clight_parts.specs.Views.{forms, mode_of}
 use Rattle.clight_reader.proofs.reading.parse_terminals.Given as goal
 
 abbrev pub invariant-loop-i : goal.invariant-loop-i

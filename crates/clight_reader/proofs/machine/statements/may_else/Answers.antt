@@ -1,5 +1,0 @@
-use Rattle.clight_reader.proofs.StatementEnds.{no_else}
-use Rattle.clight_reader.proofs.machine.statements.may_else.Goals as goal
-
-pub returns-in_ok-mode-in_default : goal.returns-in_ok-mode-in_default
-returns-in_ok-mode-in_default c = no_else _ _ _ _ _ _ _ c.in_default.not-Else c.in_ok-mode-in_default.ensures c.again.ensures
