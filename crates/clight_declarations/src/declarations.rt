@@ -10,17 +10,23 @@ ghost use Rattle.clight_parts.specs.Machine.{next};
 ghost use Rattle.clight_parts.specs.Views.{forms, owner_of, struct_front, members_note, earlier_parameters_note, header_note, mode_of, declaration_mode};
 ghost use Rattle.clight_syntax.specs.Views.{declared_of, declaration_of};
 
-use clight_parts::declaration_nodes::{all_parameters, global_item, header, more_locals, more_members, more_parameters, no_locals, prototype_item, struct_item, void_parameters};
-use clight_parts::forms::{DeclarationMode, Form, InitialiserMode, Mode, Owner};
 use crate::initialisers::in_initialiser;
-use clight_parts::stack::{operand_alone, start_alone};
-use clight_parts::words::{first_word, next_word};
+use cerco_base::NoMemory;
+use clight_parts::declaration_nodes::{
+    all_parameters, global_item, header, more_locals, more_members, more_parameters, no_locals,
+    prototype_item, struct_item, void_parameters,
+};
+use clight_parts::forms::{DeclarationMode, Form, InitialiserMode, Mode, Owner};
 use clight_parts::nodes::StructFront;
 use clight_parts::part::Noted;
-use cerco_base::NoMemory;
+use clight_parts::stack::{operand_alone, start_alone};
+use clight_parts::words::{first_word, next_word};
 use clight_syntax::span::Span;
 use clight_syntax::symbol::{Literal, Symbol, Terminal};
-use clight_syntax::tree::{Declaration, Declared, EarlierParameter, Header, Initialiser, Item, Length, LocalInitialiser, Member, Name, Specifiers};
+use clight_syntax::tree::{
+    Declaration, Declared, EarlierParameter, Header, Initialiser, Item, Length, LocalInitialiser,
+    Member, Name, Specifiers,
+};
 use std::alloc::Global;
 
 fn refuse_owner(_owner: Owner) -> DeclarationMode
@@ -119,7 +125,12 @@ fn words_more(owner: Owner, specifiers: Specifiers, t: Terminal) -> DeclarationM
 }
 
 /// The first star behind the words of a type.
-fn first_star(alloc: Global, owner: Owner, specifiers: Specifiers, at: Span) -> Result<DeclarationMode, NoMemory>
+fn first_star(
+    alloc: Global,
+    owner: Owner,
+    specifiers: Specifiers,
+    at: Span,
+) -> Result<DeclarationMode, NoMemory>
     ensures { IfOk result (λ m. declaration_mode m ≡ o.Stars (owner_of owner) specifiers (at ∷ [])) }
 {
     let mut stars = Vec::new(alloc);
@@ -127,7 +138,13 @@ fn first_star(alloc: Global, owner: Owner, specifiers: Specifiers, at: Span) -> 
     Ok(DeclarationMode::Stars(owner, specifiers, stars))
 }
 
-fn named_by(owner: Owner, specifiers: Specifiers, stars: Vec<Span>, number: u32, at: Span) -> DeclarationMode
+fn named_by(
+    owner: Owner,
+    specifiers: Specifiers,
+    stars: Vec<Span>,
+    number: u32,
+    at: Span,
+) -> DeclarationMode
     ensures { declaration_mode result ≡ o.Named (owner_of owner) (n.make_declared specifiers stars.items (n.make_name number at)) }
 {
     let name = Name { number, span: at };
@@ -139,7 +156,12 @@ fn named_by(owner: Owner, specifiers: Specifiers, stars: Vec<Span>, number: u32,
     DeclarationMode::Named(owner, x)
 }
 
-fn words(alloc: Global, owner: Owner, specifiers: Specifiers, t: Terminal) -> Result<DeclarationMode, NoMemory>
+fn words(
+    alloc: Global,
+    owner: Owner,
+    specifiers: Specifiers,
+    t: Terminal,
+) -> Result<DeclarationMode, NoMemory>
     ensures { IfOk result (λ m. declaration_mode m ≡ s.words limited (owner_of owner) specifiers t.symbol t.span) }
 {
     match t.symbol {
@@ -157,14 +179,24 @@ fn refuse_stars(_owner: Owner, _stars: Vec<Span>) -> DeclarationMode
     DeclarationMode::Refused
 }
 
-fn next_star(owner: Owner, specifiers: Specifiers, mut stars: Vec<Span>, at: Span) -> Result<DeclarationMode, NoMemory>
+fn next_star(
+    owner: Owner,
+    specifiers: Specifiers,
+    mut stars: Vec<Span>,
+    at: Span,
+) -> Result<DeclarationMode, NoMemory>
     ensures { IfOk result (λ m. declaration_mode m ≡ o.Stars (owner_of owner) specifiers (stars.items ++ at ∷ [])) }
 {
     stars.push(at)?;
     Ok(DeclarationMode::Stars(owner, specifiers, stars))
 }
 
-fn in_stars(owner: Owner, specifiers: Specifiers, stars: Vec<Span>, t: Terminal) -> Result<DeclarationMode, NoMemory>
+fn in_stars(
+    owner: Owner,
+    specifiers: Specifiers,
+    stars: Vec<Span>,
+    t: Terminal,
+) -> Result<DeclarationMode, NoMemory>
     ensures { IfOk result (λ m. declaration_mode m ≡ s.in_stars (owner_of owner) specifiers stars.items t.symbol t.span) }
 {
     match t.symbol {
@@ -207,7 +239,12 @@ fn has_lengths(owner: &Owner) -> bool
 }
 
 /// `;` behind what is declared.
-fn end_declaration(stack: &mut Vec<Form>, owner: Owner, x: Declaration, at: Span) -> Result<Mode, NoMemory>
+fn end_declaration(
+    stack: &mut Vec<Form>,
+    owner: Owner,
+    x: Declaration,
+    at: Span,
+) -> Result<Mode, NoMemory>
     ensures { IfOk result (λ m. mode_of m (forms stack.new.items) ≡ s.end_declaration limited (owner_of owner) (declaration_of x) at) }
 {
     match owner {
@@ -232,7 +269,12 @@ fn end_declaration(stack: &mut Vec<Form>, owner: Owner, x: Declaration, at: Span
 }
 
 /// `=` behind what is declared.
-fn begin_initialiser(stack: &mut Vec<Form>, owner: Owner, x: Declaration, at: Span) -> Result<Mode, NoMemory>
+fn begin_initialiser(
+    stack: &mut Vec<Form>,
+    owner: Owner,
+    x: Declaration,
+    at: Span,
+) -> Result<Mode, NoMemory>
     ensures { IfOk result (λ m. mode_of m (forms stack.new.items) ≡ s.begin_initialiser (owner_of owner) (declaration_of x) at) }
 {
     match owner {
@@ -246,7 +288,12 @@ fn begin_initialiser(stack: &mut Vec<Form>, owner: Owner, x: Declaration, at: Sp
 }
 
 /// `,` behind a parameter.
-fn next_parameter(alloc: Global, owner: Owner, x: Declared, at: Span) -> Result<DeclarationMode, NoMemory>
+fn next_parameter(
+    alloc: Global,
+    owner: Owner,
+    x: Declared,
+    at: Span,
+) -> Result<DeclarationMode, NoMemory>
     ensures { IfOk result (λ m. declaration_mode m ≡ s.next_parameter limited (owner_of owner) (declared_of x) at) }
 {
     match owner {
@@ -298,7 +345,13 @@ fn without_lengths(alloc: Global, x: Declared) -> Declaration
 }
 
 /// A symbol behind the name that is declared.
-fn named(alloc: Global, stack: &mut Vec<Form>, owner: Owner, x: Declared, t: Terminal) -> Result<Mode, NoMemory>
+fn named(
+    alloc: Global,
+    stack: &mut Vec<Form>,
+    owner: Owner,
+    x: Declared,
+    t: Terminal,
+) -> Result<Mode, NoMemory>
     ensures { IfOk result (λ m. mode_of m (forms stack.new.items) ≡ s.named limited (owner_of owner) (declared_of x) t.symbol t.span) }
 {
     match t.symbol {
@@ -316,7 +369,12 @@ fn named(alloc: Global, stack: &mut Vec<Form>, owner: Owner, x: Declared, t: Ter
 }
 
 /// A symbol behind a length.
-fn lengths(stack: &mut Vec<Form>, owner: Owner, x: Declaration, t: Terminal) -> Result<Mode, NoMemory>
+fn lengths(
+    stack: &mut Vec<Form>,
+    owner: Owner,
+    x: Declaration,
+    t: Terminal,
+) -> Result<Mode, NoMemory>
     ensures { IfOk result (λ m. mode_of m (forms stack.new.items) ≡ s.lengths limited (owner_of owner) (declaration_of x) t.symbol t.span) }
 {
     match t.symbol {
@@ -347,7 +405,14 @@ fn longer(x: Declaration, y: Length) -> Result<Declaration, NoMemory>
     Ok(Declaration { declared, lengths })
 }
 
-fn length_end(owner: Owner, x: Declaration, left: Span, number: Literal, span: Span, t: Terminal) -> Result<DeclarationMode, NoMemory>
+fn length_end(
+    owner: Owner,
+    x: Declaration,
+    left: Span,
+    number: Literal,
+    span: Span,
+    t: Terminal,
+) -> Result<DeclarationMode, NoMemory>
     ensures { IfOk result (λ m. declaration_mode m ≡ s.length_end (owner_of owner) (declaration_of x) left number span t.symbol t.span) }
 {
     match t.symbol {
@@ -379,7 +444,12 @@ fn refuse_members(_members: Noted<Vec<Member>>) -> DeclarationMode
     DeclarationMode::Refused
 }
 
-fn struct_end(front: StructFront, members: Noted<Vec<Member>>, right: Span, t: Terminal) -> DeclarationMode
+fn struct_end(
+    front: StructFront,
+    members: Noted<Vec<Member>>,
+    right: Span,
+    t: Terminal,
+) -> DeclarationMode
     ensures { declaration_mode result ≡ s.struct_end limited (struct_front front) (members_note members) right t.symbol t.span }
 {
     match t.symbol {
@@ -394,7 +464,12 @@ fn refuse_header(_x: Noted<Header>) -> Mode
     Mode::Refused
 }
 
-fn header_end(alloc: Global, stack: &mut Vec<Form>, x: Noted<Header>, t: Terminal) -> Result<Mode, NoMemory>
+fn header_end(
+    alloc: Global,
+    stack: &mut Vec<Form>,
+    x: Noted<Header>,
+    t: Terminal,
+) -> Result<Mode, NoMemory>
     ensures { IfOk result (λ m. mode_of m (forms stack.new.items) ≡ s.header_end limited (header_note x) t.symbol t.span) }
 {
     match t.symbol {
@@ -414,21 +489,40 @@ fn refuse_item(_x: Noted<Item>) -> Mode
 }
 
 /// A symbol in a declaration.
-pub fn in_declaration(alloc: Global, stack: &mut Vec<Form>, mode: DeclarationMode, t: Terminal) -> Result<Mode, NoMemory>
+pub fn in_declaration(
+    alloc: Global,
+    stack: &mut Vec<Form>,
+    mode: DeclarationMode,
+    t: Terminal,
+) -> Result<Mode, NoMemory>
     ensures { IfOk result (λ m. mode_of m (forms stack.new.items) ≡ next limited (declaration_mode mode) t.symbol t.span) }
 {
     match mode {
         DeclarationMode::ItemStart => Ok(Mode::Declaration(type_start(Owner::InSource, t))),
         DeclarationMode::TypeStart(owner) => Ok(Mode::Declaration(type_start(owner, t))),
-        DeclarationMode::TagName(owner, keyword) => Ok(Mode::Declaration(tag_name(owner, keyword, t))),
-        DeclarationMode::Words(owner, specifiers) => Ok(Mode::Declaration(words(alloc, owner, specifiers, t)?)),
-        DeclarationMode::Stars(owner, specifiers, stars) => Ok(Mode::Declaration(in_stars(owner, specifiers, stars, t)?)),
+        DeclarationMode::TagName(owner, keyword) => Ok(Mode::Declaration(tag_name(
+            owner, keyword, t,
+        ))),
+        DeclarationMode::Words(owner, specifiers) => Ok(Mode::Declaration(words(
+            alloc, owner, specifiers, t,
+        )?)),
+        DeclarationMode::Stars(owner, specifiers, stars) => Ok(Mode::Declaration(in_stars(
+            owner, specifiers, stars, t,
+        )?)),
         DeclarationMode::Named(owner, x) => named(alloc, stack, owner, x, t),
         DeclarationMode::Lengths(owner, x) => lengths(stack, owner, x, t),
-        DeclarationMode::LengthNumber(owner, x, left) => Ok(Mode::Declaration(length_number(owner, x, left, t))),
-        DeclarationMode::LengthEnd(owner, x, left, number, span) => Ok(Mode::Declaration(length_end(owner, x, left, number, span, t)?)),
-        DeclarationMode::Members(front, members) => Ok(Mode::Declaration(next_member(front, members, t))),
-        DeclarationMode::StructEnd(front, members, right) => Ok(Mode::Declaration(struct_end(front, members, right, t))),
+        DeclarationMode::LengthNumber(owner, x, left) => Ok(Mode::Declaration(length_number(
+            owner, x, left, t,
+        ))),
+        DeclarationMode::LengthEnd(owner, x, left, number, span) => Ok(Mode::Declaration(length_end(
+            owner, x, left, number, span, t,
+        )?)),
+        DeclarationMode::Members(front, members) => Ok(Mode::Declaration(next_member(
+            front, members, t,
+        ))),
+        DeclarationMode::StructEnd(front, members, right) => Ok(Mode::Declaration(struct_end(
+            front, members, right, t,
+        ))),
         DeclarationMode::Initialiser(m) => Ok(Mode::Declaration(in_initialiser(alloc, m, t)?)),
         DeclarationMode::HeaderEnd(x) => header_end(alloc, stack, x, t),
         DeclarationMode::Finished(x) => Ok(refuse_item(x)),

@@ -10,9 +10,9 @@ ghost use Rattle.clight_parts.specs.Machine.{next};
 ghost use Rattle.clight_parts.specs.Views.{number_list, declaration_mode, initialiser_mode};
 ghost use Rattle.clight_syntax.specs.Views.{declaration_of, initialiser_of};
 
+use cerco_base::NoMemory;
 use clight_parts::declaration_nodes::global_item;
 use clight_parts::forms::{DeclarationMode, InitialiserMode, NumberList};
-use cerco_base::NoMemory;
 use clight_syntax::span::Span;
 use clight_syntax::symbol::{Literal, Symbol, Terminal};
 use clight_syntax::tree::{Declaration, EarlierNumber, Initialiser, SignedNumber};
@@ -36,7 +36,13 @@ fn refuse_initialiser(_x: Declaration, _initialiser: Initialiser) -> Declaration
     DeclarationMode::Refused
 }
 
-fn single(x: Declaration, equals: Span, minus: Option<Span>, number: Literal, span: Span) -> DeclarationMode
+fn single(
+    x: Declaration,
+    equals: Span,
+    minus: Option<Span>,
+    number: Literal,
+    span: Span,
+) -> DeclarationMode
     ensures { declaration_mode result ≡ o.InitialiserEnd (declaration_of x) (t.Single equals (s.signed minus number span)) }
 {
     let number = SignedNumber {
@@ -84,7 +90,12 @@ fn initialiser_end(x: Declaration, initialiser: Initialiser, t: Terminal) -> Dec
     }
 }
 
-fn list_number_at(l: NumberList, minus: Option<Span>, number: Literal, span: Span) -> DeclarationMode
+fn list_number_at(
+    l: NumberList,
+    minus: Option<Span>,
+    number: Literal,
+    span: Span,
+) -> DeclarationMode
     ensures { declaration_mode result ≡ o.ListEnd (number_list l) (s.signed minus number span) }
 {
     let number = SignedNumber {
@@ -159,7 +170,11 @@ fn list_end(l: NumberList, number: SignedNumber, t: Terminal) -> Result<Declarat
 }
 
 /// A symbol in the first value of a global.
-pub fn in_initialiser(alloc: Global, mode: InitialiserMode, t: Terminal) -> Result<DeclarationMode, NoMemory>
+pub fn in_initialiser(
+    alloc: Global,
+    mode: InitialiserMode,
+    t: Terminal,
+) -> Result<DeclarationMode, NoMemory>
     ensures { IfOk result (λ m. declaration_mode m ≡ next limited (initialiser_mode mode) t.symbol t.span) }
 {
     match mode {

@@ -15,7 +15,12 @@ use clight_syntax::symbol::Terminal;
 use std::alloc::Global;
 
 /// Reads one terminal symbol.
-pub fn next_mode(alloc: Global, stack: &mut Vec<Form>, mode: Mode, t: Terminal) -> Result<Mode, NoMemory>
+pub fn next_mode(
+    alloc: Global,
+    stack: &mut Vec<Form>,
+    mode: Mode,
+    t: Terminal,
+) -> Result<Mode, NoMemory>
     ensures { IfOk result (λ m. mode_of m (forms stack.new.items) ≡ next limited (mode_of mode (forms stack.old.items)) t.symbol t.span) }
 {
     match mode {

@@ -10,11 +10,11 @@ ghost use Rattle.clight_parts.specs.Machine as s;
 ghost use Rattle.clight_reader.specs.Readings.{state_of, Advances, NotesAre, IsFault};
 ghost use Rattle.clight_parts.specs.Views.{items_note, forms, declaration_mode};
 
+use crate::machine::next_mode;
+use cerco_base::NoMemory;
 use clight_parts::declaration_nodes::more_items;
 use clight_parts::forms::{DeclarationMode, Form, Mode};
-use crate::machine::next_mode;
 use clight_parts::part::Noted;
-use cerco_base::NoMemory;
 use clight_syntax::symbol::Terminal;
 use clight_syntax::tree::Item;
 use std::alloc::Global;
@@ -48,7 +48,12 @@ pub struct Reading {
 }
 
 /// Reads one terminal symbol: `None` where it can't stand there.
-fn advance(alloc: Global, stack: &mut Vec<Form>, reading: Reading, t: Terminal) -> Result<Option<Reading>, NoMemory>
+fn advance(
+    alloc: Global,
+    stack: &mut Vec<Form>,
+    reading: Reading,
+    t: Terminal,
+) -> Result<Option<Reading>, NoMemory>
     ensures { IfOk result (λ r. Advances r (s.step limited (state_of reading (forms stack.old.items)) t) (forms stack.new.items)) }
 {
     let Reading { items, mode } = reading;

@@ -71,11 +71,46 @@ struct Nest {
 }
 
 const NESTS: [Nest; 5] = [
-    Nest { front: "void main(void){P1=", left: "(", middle: "1", right: ")", back: ";}", at: 19 },
-    Nest { front: "void main(void){P1=", left: "~", middle: "1", right: "", back: ";}", at: 19 },
-    Nest { front: "void main(void){", left: "{", middle: "", right: "}", back: "}", at: 16 },
-    Nest { front: "int ", left: "*", middle: "p", right: "", back: ";", at: 4 },
-    Nest { front: "int p", left: "[1]", middle: "", right: "", back: ";", at: 4 },
+    Nest {
+        front: "void main(void){P1=",
+        left: "(",
+        middle: "1",
+        right: ")",
+        back: ";}",
+        at: 19,
+    },
+    Nest {
+        front: "void main(void){P1=",
+        left: "~",
+        middle: "1",
+        right: "",
+        back: ";}",
+        at: 19,
+    },
+    Nest {
+        front: "void main(void){",
+        left: "{",
+        middle: "",
+        right: "}",
+        back: "}",
+        at: 16,
+    },
+    Nest {
+        front: "int ",
+        left: "*",
+        middle: "p",
+        right: "",
+        back: ";",
+        at: 4,
+    },
+    Nest {
+        front: "int p",
+        left: "[1]",
+        middle: "",
+        right: "",
+        back: ";",
+        at: 4,
+    },
 ];
 
 impl Nest {
@@ -118,7 +153,10 @@ fn faults_have_their_places(rt: HostRuntime) -> Result<(), Fail> {
     for (front, back) in &REFUSED {
         let text = format!(in alloc; "{front}{back}")?;
         let at = front.len() as u32;
-        assert_eq!(rt; refusal(alloc, text.as_bytes()), Some(Fault::Refused(Reason::Syntax { at })));
+        assert_eq!(rt;
+            refusal(alloc, text.as_bytes()),
+            Some(Fault::Refused(Reason::Syntax { at }))
+        );
     }
     Ok(())
 }
