@@ -7,12 +7,12 @@ use Rattle.clight_syntax.specs.declared.tree.Name.{Name}
 use Rattle.clight_syntax.specs.declared.tree.Specifiers.TheVariants as t
 use Rattle.clight_syntax.specs.Trees.{Expr, Variable, Parenthesis, Binary, Prefix, Cast, Index, Select, Assignment, Test, NoArguments, Arguments', ForHead, Stmt, Empty, Block, Assign, WritePort, CallOf, If, IfElse, While, Do, For, Return, Stmts, NoStmts, Then, Declared, Declaration, Member, NoInitialiser, Single, Listed, Parameters', NoValue, Value, Item, GlobalItem, PrototypeItem, FunctionItem}
 use Rattle.clight_syntax.specs.Spelling.{terminal, name_terminal, binary_symbol, prefix_symbol, member_symbol, type_terminals, expr_terminals, optional, test_terminals, earlier_argument_terminals, target_terminals, call_terminals, for_terminals, stmt_terminals, stmts_terminals, declared_terminals, declaration_terminals, member_terminals, number_terminals, earlier_number_terminals, initialiser_terminals, earlier_parameter_terminals, header_terminals, local_terminals, item_terminals, level, HasLevel, IsForHead, IsStatement, AreStatements, IsLocal, IsItem}
-use Rattle.clight_reader.specs.Builds.{trees, no_span, no_literal}
-use Rattle.clight_reader.specs.Nodes.{make_name, make_declared, make_local, with_local, make_head, call, struct_item, header, ForStart, ForMiddle, StructFront, FunctionFront}
-use Rattle.clight_reader.specs.Forms.{Place, AsStatement, AsFirst, AsStep, Form, InBinary, InPrefix, InCast, InParenthesis, InIndex, InTarget, InValue, InPortValue, InArguments, InIfTest, InWhileTest, InDoTest, InCondition, InReturn, InLocalValue, InIf, InElse, InWhile, InDo, InFor, InBlock, InLocals, InBody, Owner, InSource, InStruct, InFirstParameter, InLaterParameter, InFunction, Pending, CallPending, ReadPending, DoPending, BreakPending, ContinuePending, NumberList, Mode, Operand, Behind, MemberName, CastTag, CastWords, Statement, MayElse, IfWord, WhileWord, DoBody, DoWhile, ForWord, ForFirst, ForCondition, ForStep, ReturnWord, PortWord, FirstArgument, StatementEnd, ItemStart, TypeStart, TagName, Words, Stars, Named, Lengths, LengthNumber, LengthEnd, Members, StructEnd, InitialiserStart, InitialiserNumber, InitialiserEnd, ListStart, ListNumber, ListEnd, HeaderEnd, Finished, Refused}
-use Rattle.clight_reader.specs.Statements.{ended}
-use Rattle.clight_reader.specs.Declarations.{without_lengths, make_length, longer, signed}
-use Rattle.clight_reader.specs.Machine.{refused}
+use Rattle.clight_parts.specs.Builds.{trees, no_span, no_literal}
+use Rattle.clight_parts.specs.Nodes.{make_name, make_declared, make_local, with_local, make_head, call, struct_item, header, ForStart, ForMiddle, StructFront, FunctionFront}
+use Rattle.clight_parts.specs.Forms.{Place, AsStatement, AsFirst, AsStep, Form, InBinary, InPrefix, InCast, InParenthesis, InIndex, InTarget, InValue, InPortValue, InArguments, InIfTest, InWhileTest, InDoTest, InCondition, InReturn, InLocalValue, InIf, InElse, InWhile, InDo, InFor, InBlock, InLocals, InBody, Owner, InSource, InStruct, InFirstParameter, InLaterParameter, InFunction, Pending, CallPending, ReadPending, DoPending, BreakPending, ContinuePending, NumberList, Mode, Operand, Behind, MemberName, CastTag, CastWords, Statement, MayElse, IfWord, WhileWord, DoBody, DoWhile, ForWord, ForFirst, ForCondition, ForStep, ReturnWord, PortWord, FirstArgument, StatementEnd, ItemStart, TypeStart, TagName, Words, Stars, Named, Lengths, LengthNumber, LengthEnd, Members, StructEnd, InitialiserStart, InitialiserNumber, InitialiserEnd, ListStart, ListNumber, ListEnd, HeaderEnd, Finished, Refused}
+use Rattle.clight_parts.specs.Statements.{ended}
+use Rattle.clight_parts.specs.Declarations.{without_lengths, make_length, longer, signed}
+use Rattle.clight_parts.specs.Machine.{refused}
 use Rattle.clight_reader.proofs.ReadExpressions.{weaken, level_low}
 use Rattle.clight_reader.proofs.ReadItems.{MayHaveLengths}
 use Rattle.clight_reader.proofs.OpenForms.{start_terminals, middle_terminals, place_terminals, front_terminals, spell, struct_terminals, owner_terminals, pending_terminals, list_terminals, spelled, IsStart, IsMiddle, IsPlace, IsFront, HoldsStatement, HoldsExpression, IsPending, IsOwner, IsGood}

@@ -9,11 +9,11 @@ use Rattle.clight_syntax.specs.declared.tree.Specifiers.{Specifiers}
 use Rattle.clight_syntax.specs.declared.tree.Specifiers.TheVariants as t
 use Rattle.clight_syntax.specs.declared.tree.SignedNumber.{SignedNumber}
 use Rattle.clight_syntax.specs.Trees.{Declared, Declaration, Initialiser, Header, Member}
-use Rattle.clight_reader.specs.Builds.{trees, limited}
-use Rattle.clight_reader.specs.Nodes.{StructFront}
-use Rattle.clight_reader.specs.Forms.{InLocals, Owner, InSource, InStruct, InFirstParameter, InLaterParameter, InFunction, NumberList, Statement, TypeStart, Words, Members, Refused}
-use Rattle.clight_reader.specs.Expressions.{first_word, next_word}
-use Rattle.clight_reader.specs.Declarations.{type_start, tag_name, void_only, struct_start, words, in_stars, open_parameters, open_length, end_declaration, begin_initialiser, next_parameter, end_parameters, without_lengths, named, lengths, length_number, length_end, next_member, struct_end, initialiser_start, initialiser_number, initialiser_end, list_start, list_number, list_end, header_end}
+use Rattle.clight_parts.specs.Builds.{trees, limited}
+use Rattle.clight_parts.specs.Nodes.{StructFront}
+use Rattle.clight_parts.specs.Forms.{InLocals, Owner, InSource, InStruct, InFirstParameter, InLaterParameter, InFunction, NumberList, Statement, TypeStart, Words, Members, Refused}
+use Rattle.clight_parts.specs.Expressions.{first_word, next_word}
+use Rattle.clight_parts.specs.Declarations.{type_start, tag_name, void_only, struct_start, words, in_stars, open_parameters, open_length, end_declaration, begin_initialiser, next_parameter, end_parameters, without_lengths, named, lengths, length_number, length_end, next_member, struct_end, initialiser_start, initialiser_number, initialiser_end, list_start, list_number, list_end, header_end}
 use Rattle.clight_reader.proofs.CutTrees.{onto-push, add_member, cut_members, add_parameter, cut_header, cut_owner, cut_mode}
 use Rattle.clight_reader.proofs.CutExpressions.{locals_cut}
 

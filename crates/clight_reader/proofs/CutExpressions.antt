@@ -10,12 +10,12 @@ use Rattle.clight_syntax.specs.declared.tree.MemberOperator.{MemberOperator}
 use Rattle.clight_syntax.specs.declared.tree.Specifiers.{Specifiers}
 use Rattle.clight_syntax.specs.Depth.{depth_limit}
 use Rattle.clight_syntax.specs.Trees.{Expr, Parenthesis, Binary, Prefix, Cast, Index, Select, Stmt, Assign, WritePort, If, IfElse, While, For, Return, Local}
-use Rattle.clight_reader.specs.Builds.{trees, limited, limit, least, empty_expr}
-use Rattle.clight_reader.specs.Nodes.{name_of, tree_name, with_local, FunctionFront}
-use Rattle.clight_reader.specs.Forms.{AsStatement, AsFirst, AsStep, Form, InBinary, InParenthesis, InIndex, InTarget, InValue, InPortValue, InArguments, InCondition, InReturn, InLocalValue, InIf, InElse, InWhile, InFor, InLocals, Operand, CastWords, Statement, Refused}
-use Rattle.clight_reader.specs.Expressions.{first_word, next_word, close, settle, Settled, settled, strength, binary_of, is_target, infix_at, cast_words, cast_tag, read_pending, operand, member_name, tag_of_cast, in_cast}
-use Rattle.clight_reader.specs.Statements.{finish, flush, close_parenthesis, close_bracket, next_argument, end_expression, begin_value, begin_call, begin_call_to, call_at, mark, act, no_earlier}
-use Rattle.clight_reader.specs.Machine.{start}
+use Rattle.clight_parts.specs.Builds.{trees, limited, limit, least, empty_expr}
+use Rattle.clight_parts.specs.Nodes.{name_of, tree_name, with_local, FunctionFront}
+use Rattle.clight_parts.specs.Forms.{AsStatement, AsFirst, AsStep, Form, InBinary, InParenthesis, InIndex, InTarget, InValue, InPortValue, InArguments, InCondition, InReturn, InLocalValue, InIf, InElse, InWhile, InFor, InLocals, Operand, CastWords, Statement, Refused}
+use Rattle.clight_parts.specs.Expressions.{first_word, next_word, close, settle, Settled, settled, strength, binary_of, is_target, infix_at, cast_words, cast_tag, read_pending, operand, member_name, tag_of_cast, in_cast}
+use Rattle.clight_parts.specs.Statements.{finish, flush, close_parenthesis, close_bracket, next_argument, end_expression, begin_value, begin_call, begin_call_to, call_at, mark, act, no_earlier}
+use Rattle.clight_parts.specs.Machine.{start}
 use Rattle.clight_reader.proofs.CutTrees.{onto-push, cut_expr, add_argument, cut_stmt, add_local, cut_front, cut_form, cut_forms, cut_settled, cut_mode}
 
 -- ---- open operators

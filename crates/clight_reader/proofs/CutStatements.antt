@@ -8,12 +8,12 @@ use Rattle.clight_syntax.specs.declared.tree.Name.{Name}
 use Rattle.clight_syntax.specs.declared.tree.Specifiers.{Specifiers}
 use Rattle.clight_syntax.specs.declared.tree.CallTarget.{CallTarget}
 use Rattle.clight_syntax.specs.Trees.{Stmt, Empty, Block, Return}
-use Rattle.clight_reader.specs.Builds.{trees, limited}
-use Rattle.clight_reader.specs.Nodes.{ForStart, ForMiddle}
-use Rattle.clight_reader.specs.Forms.{AsStatement, AsFirst, AsStep, Form, InTarget, InArguments, InCondition, InReturn, InIf, InBlock, InLocals, Pending, CallPending, Mode, Statement, DoBody}
-use Rattle.clight_reader.specs.Expressions.{first_word, operand}
-use Rattle.clight_reader.specs.Statements.{finish, flush, ended, close_brace, local_words, local_tag, statement, do_while, again, else_arm, may_else, opened, for_word, for_first, for_condition, for_step, return_word, port_word, first_argument, statement_end}
-use Rattle.clight_reader.specs.Machine.{start}
+use Rattle.clight_parts.specs.Builds.{trees, limited}
+use Rattle.clight_parts.specs.Nodes.{ForStart, ForMiddle}
+use Rattle.clight_parts.specs.Forms.{AsStatement, AsFirst, AsStep, Form, InTarget, InArguments, InCondition, InReturn, InIf, InBlock, InLocals, Pending, CallPending, Mode, Statement, DoBody}
+use Rattle.clight_parts.specs.Expressions.{first_word, operand}
+use Rattle.clight_parts.specs.Statements.{finish, flush, ended, close_brace, local_words, local_tag, statement, do_while, again, else_arm, may_else, opened, for_word, for_first, for_condition, for_step, return_word, port_word, first_argument, statement_end}
+use Rattle.clight_parts.specs.Machine.{start}
 use Rattle.clight_reader.proofs.CutTrees.{cut_start, cut_middle, cut_stmt, cut_form, cut_forms, cut_pending, cut_mode}
 use Rattle.clight_reader.proofs.CutExpressions.{operand_cut, finish_cut, flush_cut}
 

@@ -5,11 +5,11 @@ use Rattle.clight_syntax.specs.declared.span.Span.{Span}
 use Rattle.clight_syntax.specs.declared.symbol.Symbol.{Symbol}
 use Rattle.clight_syntax.specs.declared.symbol.Terminal.{Terminal}
 use Rattle.clight_syntax.specs.Trees.{Item}
-use Rattle.clight_reader.specs.Builds.{trees, limited}
-use Rattle.clight_reader.specs.Forms.{InIfTest, InWhileTest, InDoTest, InSource, Mode, Operand, Behind, MemberName, CastTag, CastWords, Statement, MayElse, IfWord, WhileWord, DoBody, DoWhile, ForWord, ForFirst, ForCondition, ForStep, ReturnWord, PortWord, FirstArgument, StatementEnd, ItemStart, TypeStart, TagName, Words, Stars, Named, Lengths, LengthNumber, LengthEnd, Members, StructEnd, InitialiserStart, InitialiserNumber, InitialiserEnd, ListStart, ListNumber, ListEnd, HeaderEnd, Finished, Refused}
-use Rattle.clight_reader.specs.Expressions.{settle, binds}
-use Rattle.clight_reader.specs.Statements.{act}
-use Rattle.clight_reader.specs.Machine.{next, State, state, gather, step, run, start, ends_in, ends, refused}
+use Rattle.clight_parts.specs.Builds.{trees, limited}
+use Rattle.clight_parts.specs.Forms.{InIfTest, InWhileTest, InDoTest, InSource, Mode, Operand, Behind, MemberName, CastTag, CastWords, Statement, MayElse, IfWord, WhileWord, DoBody, DoWhile, ForWord, ForFirst, ForCondition, ForStep, ReturnWord, PortWord, FirstArgument, StatementEnd, ItemStart, TypeStart, TagName, Words, Stars, Named, Lengths, LengthNumber, LengthEnd, Members, StructEnd, InitialiserStart, InitialiserNumber, InitialiserEnd, ListStart, ListNumber, ListEnd, HeaderEnd, Finished, Refused}
+use Rattle.clight_parts.specs.Expressions.{settle, binds}
+use Rattle.clight_parts.specs.Statements.{act}
+use Rattle.clight_parts.specs.Machine.{next, State, state, gather, step, run, start, ends_in, ends, refused}
 use Rattle.clight_reader.proofs.CutTrees.{onto-push, add_item, cut_items, cut_mode, cut_state}
 use Rattle.clight_reader.proofs.CutExpressions.{settle_cut, operand_cut, member_name_cut, tag_of_cast_cut, in_cast_cut, act_cut}
 use Rattle.clight_reader.proofs.CutStatements.{statement_cut, do_while_cut, may_else_cut, opened_cut, for_word_cut, for_first_cut, for_condition_cut, for_step_cut, return_word_cut, port_word_cut, first_argument_cut, statement_end_cut}

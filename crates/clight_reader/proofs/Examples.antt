@@ -6,8 +6,8 @@ use Rattle.clight_syntax.specs.declared.symbol.Symbol.{Symbol}
 use Rattle.clight_syntax.specs.declared.symbol.Symbol.TheVariants as s
 use Rattle.clight_syntax.specs.declared.symbol.Terminal.{Terminal}
 use Rattle.clight_syntax.specs.Spelling.{terminal, items_terminals}
-use Rattle.clight_reader.specs.Builds.{trees, limited}
-use Rattle.clight_reader.specs.Machine.{run, start, ends}
+use Rattle.clight_parts.specs.Builds.{trees, limited}
+use Rattle.clight_parts.specs.Machine.{run, start, ends}
 
 -- symbols as terminals at the places 0, 1, 2 ..
 abbrev from : ℕ → List Symbol → List Terminal

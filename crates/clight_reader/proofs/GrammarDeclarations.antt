@@ -11,11 +11,11 @@ use Rattle.clight_syntax.specs.declared.tree.Specifiers.TheVariants as t
 use Rattle.clight_syntax.specs.declared.tree.SignedNumber.{SignedNumber}
 use Rattle.clight_syntax.specs.Trees.{Declared, Declaration, Initialiser, Header, Member}
 use Rattle.clight_syntax.specs.Spelling.{IsLocal}
-use Rattle.clight_reader.specs.Builds.{trees}
-use Rattle.clight_reader.specs.Nodes.{StructFront}
-use Rattle.clight_reader.specs.Forms.{Owner, InSource, InStruct, InFirstParameter, InLaterParameter, InFunction, NumberList, Words, Refused}
-use Rattle.clight_reader.specs.Expressions.{first_word, next_word}
-use Rattle.clight_reader.specs.Declarations.{type_start, tag_name, void_only, struct_start, words, in_stars, open_parameters, open_length, end_declaration, begin_initialiser, next_parameter, end_parameters, without_lengths, named, lengths, length_number, length_end, next_member, struct_end, initialiser_start, initialiser_number, initialiser_end, list_start, list_number, list_end, header_end}
+use Rattle.clight_parts.specs.Builds.{trees}
+use Rattle.clight_parts.specs.Nodes.{StructFront}
+use Rattle.clight_parts.specs.Forms.{Owner, InSource, InStruct, InFirstParameter, InLaterParameter, InFunction, NumberList, Words, Refused}
+use Rattle.clight_parts.specs.Expressions.{first_word, next_word}
+use Rattle.clight_parts.specs.Declarations.{type_start, tag_name, void_only, struct_start, words, in_stars, open_parameters, open_length, end_declaration, begin_initialiser, next_parameter, end_parameters, without_lengths, named, lengths, length_number, length_end, next_member, struct_end, initialiser_start, initialiser_number, initialiser_end, list_start, list_number, list_end, header_end}
 use Rattle.clight_reader.proofs.ReadItems.{MayHaveLengths}
 use Rattle.clight_reader.proofs.OpenForms.{IsOwner, IsGood}
 use Rattle.clight_reader.proofs.GrammarExpressions.{All-push, some_pushed}

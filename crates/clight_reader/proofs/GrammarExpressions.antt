@@ -12,10 +12,10 @@ use Rattle.clight_syntax.specs.declared.tree.MemberOperator.{MemberOperator}
 use Rattle.clight_syntax.specs.declared.tree.Specifiers.{Specifiers}
 use Rattle.clight_syntax.specs.Trees.{Expr, Binary, Prefix, Cast, Stmt, Assign, WritePort, If, IfElse, While, For, Return}
 use Rattle.clight_syntax.specs.Spelling.{level, HasLevel, IsExpression, EndsClosed, IsStatement, IsLocal}
-use Rattle.clight_reader.specs.Builds.{trees}
-use Rattle.clight_reader.specs.Forms.{AsStatement, AsFirst, AsStep, Form, InBinary, InPrefix, InCast, InParenthesis, InIndex, InTarget, InValue, InPortValue, InArguments, InIfTest, InWhileTest, InDoTest, InCondition, InReturn, InLocalValue, InIf, InElse, InWhile, InDo, InFor, InBlock, InLocals, InBody, Operand, CastWords, Refused}
-use Rattle.clight_reader.specs.Expressions.{first_word, next_word, close, settle, Settled, settled, strength, binary_of, mark_level, binds, is_target, infix_at, cast_words, cast_tag, read_pending, operand, member_name, tag_of_cast, in_cast}
-use Rattle.clight_reader.specs.Statements.{finish, flush, close_parenthesis, close_bracket, next_argument, end_expression, begin_value, begin_call, begin_call_to, call_at, mark, act}
+use Rattle.clight_parts.specs.Builds.{trees}
+use Rattle.clight_parts.specs.Forms.{AsStatement, AsFirst, AsStep, Form, InBinary, InPrefix, InCast, InParenthesis, InIndex, InTarget, InValue, InPortValue, InArguments, InIfTest, InWhileTest, InDoTest, InCondition, InReturn, InLocalValue, InIf, InElse, InWhile, InDo, InFor, InBlock, InLocals, InBody, Operand, CastWords, Refused}
+use Rattle.clight_parts.specs.Expressions.{first_word, next_word, close, settle, Settled, settled, strength, binary_of, mark_level, binds, is_target, infix_at, cast_words, cast_tag, read_pending, operand, member_name, tag_of_cast, in_cast}
+use Rattle.clight_parts.specs.Statements.{finish, flush, close_parenthesis, close_bracket, next_argument, end_expression, begin_value, begin_call, begin_call_to, call_at, mark, act}
 use Rattle.clight_reader.proofs.ReadExpressions.{weaken, level_low, level_high}
 use Rattle.clight_reader.proofs.OpenForms.{HoldsStatement, HoldsExpression, HoldsOperand, IsGood}
 

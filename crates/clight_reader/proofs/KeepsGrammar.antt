@@ -1,9 +1,9 @@
 -- A token leads from parts of the grammar to parts of the grammar.
 use Rattle.clight_syntax.specs.declared.span.Span.{Span}
 use Rattle.clight_syntax.specs.declared.symbol.Symbol.{Symbol}
-use Rattle.clight_reader.specs.Builds.{trees}
-use Rattle.clight_reader.specs.Forms.{InIfTest, InWhileTest, InDoTest, InSource, Mode, Operand, Behind, MemberName, CastTag, CastWords, Statement, MayElse, IfWord, WhileWord, DoBody, DoWhile, ForWord, ForFirst, ForCondition, ForStep, ReturnWord, PortWord, FirstArgument, StatementEnd, ItemStart, TypeStart, TagName, Words, Stars, Named, Lengths, LengthNumber, LengthEnd, Members, StructEnd, InitialiserStart, InitialiserNumber, InitialiserEnd, ListStart, ListNumber, ListEnd, HeaderEnd, Finished, Refused}
-use Rattle.clight_reader.specs.Machine.{next}
+use Rattle.clight_parts.specs.Builds.{trees}
+use Rattle.clight_parts.specs.Forms.{InIfTest, InWhileTest, InDoTest, InSource, Mode, Operand, Behind, MemberName, CastTag, CastWords, Statement, MayElse, IfWord, WhileWord, DoBody, DoWhile, ForWord, ForFirst, ForCondition, ForStep, ReturnWord, PortWord, FirstArgument, StatementEnd, ItemStart, TypeStart, TagName, Words, Stars, Named, Lengths, LengthNumber, LengthEnd, Members, StructEnd, InitialiserStart, InitialiserNumber, InitialiserEnd, ListStart, ListNumber, ListEnd, HeaderEnd, Finished, Refused}
+use Rattle.clight_parts.specs.Machine.{next}
 use Rattle.clight_reader.proofs.OpenForms.{IsGood}
 use Rattle.clight_reader.proofs.GrammarExpressions.{operand_good, member_name_good, tag_of_cast_good, in_cast_good, behind_good}
 use Rattle.clight_reader.proofs.GrammarStatements.{statement_good, do_while_good, may_else_good, opened_good, for_word_good, for_first_good, for_condition_good, for_step_good, return_word_good, port_word_good, first_argument_good, statement_end_good}

@@ -5,9 +5,9 @@ use Rattle.clight_syntax.specs.declared.symbol.Symbol.{Symbol}
 use Rattle.clight_syntax.specs.declared.symbol.Symbol.TheVariants as s
 use Rattle.clight_syntax.specs.declared.symbol.Terminal.{Terminal}
 use Rattle.clight_syntax.specs.Spelling.{terminal, stmt_terminals}
-use Rattle.clight_reader.specs.Builds.{trees}
-use Rattle.clight_reader.specs.Forms.{InIfTest, InWhileTest, InDoTest, InSource, Mode, Operand, Behind, MemberName, CastTag, CastWords, Statement, MayElse, IfWord, WhileWord, DoBody, DoWhile, ForWord, ForFirst, ForCondition, ForStep, ReturnWord, PortWord, FirstArgument, StatementEnd, ItemStart, TypeStart, TagName, Words, Stars, Named, Lengths, LengthNumber, LengthEnd, Members, StructEnd, InitialiserStart, InitialiserNumber, InitialiserEnd, ListStart, ListNumber, ListEnd, HeaderEnd, Finished, Refused}
-use Rattle.clight_reader.specs.Machine.{next}
+use Rattle.clight_parts.specs.Builds.{trees}
+use Rattle.clight_parts.specs.Forms.{InIfTest, InWhileTest, InDoTest, InSource, Mode, Operand, Behind, MemberName, CastTag, CastWords, Statement, MayElse, IfWord, WhileWord, DoBody, DoWhile, ForWord, ForFirst, ForCondition, ForStep, ReturnWord, PortWord, FirstArgument, StatementEnd, ItemStart, TypeStart, TagName, Words, Stars, Named, Lengths, LengthNumber, LengthEnd, Members, StructEnd, InitialiserStart, InitialiserNumber, InitialiserEnd, ListStart, ListNumber, ListEnd, HeaderEnd, Finished, Refused}
+use Rattle.clight_parts.specs.Machine.{next}
 use Rattle.clight_reader.proofs.OpenForms.{spell, spelled, HasRead}
 use Rattle.clight_reader.proofs.SpellingExpressions.{operand_read, member_name_read, tag_of_cast_read, in_cast_read, behind_read}
 use Rattle.clight_reader.proofs.SpellingStatements.{statement_read, do_while_read, may_else_read, opened_read, for_word_read, for_first_read, for_condition_read, for_step_read, return_word_read, port_word_read, first_argument_read, statement_end_read}

@@ -6,8 +6,8 @@ use Rattle.clight_syntax.specs.declared.symbol.Terminal.{Terminal}
 use Rattle.clight_syntax.specs.Trees.{Item}
 use Rattle.clight_syntax.specs.Spelling.{Spells}
 use Rattle.clight_syntax.specs.Depth.{IsShallow, IsFirstDeep}
-use Rattle.clight_reader.specs.Builds.{trees, limited, Noted}
-use Rattle.clight_reader.specs.Machine.{State, step, run, start, ends, refused}
+use Rattle.clight_parts.specs.Builds.{trees, limited, Noted}
+use Rattle.clight_parts.specs.Machine.{State, step, run, start, ends, refused}
 use Rattle.clight_reader.specs.Faults.{FaultAt}
 use Rattle.clight_reader.proofs.Programs.{sound, again, fault_at}
 use Rattle.clight_reader.proofs.CutTrees.{cut_items}

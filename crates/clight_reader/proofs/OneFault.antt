@@ -6,8 +6,8 @@ use Rattle.std.proofs.lemmas.List.{take_all}
 use Rattle.clight_syntax.specs.declared.symbol.Terminal.{Terminal}
 use Rattle.clight_syntax.specs.Trees.{Item}
 use Rattle.clight_syntax.specs.Spelling.{Spells, Begins}
-use Rattle.clight_reader.specs.Builds.{trees}
-use Rattle.clight_reader.specs.Machine.{run, start, ends, refused}
+use Rattle.clight_parts.specs.Builds.{trees}
+use Rattle.clight_parts.specs.Machine.{run, start, ends, refused}
 use Rattle.clight_reader.specs.Faults.{FaultAt}
 use Rattle.clight_reader.proofs.Programs.{sound, fault_at}
 

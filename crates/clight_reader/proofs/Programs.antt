@@ -7,9 +7,9 @@ use Rattle.std.proofs.lemmas.List.Elements.{All-head, All-tail, All-nil}
 use Rattle.clight_syntax.specs.declared.symbol.Terminal.{Terminal}
 use Rattle.clight_syntax.specs.Trees.{Item}
 use Rattle.clight_syntax.specs.Spelling.{item_terminals, items_terminals, IsItem, AreItems, Spells, Begins}
-use Rattle.clight_reader.specs.Builds.{trees}
-use Rattle.clight_reader.specs.Forms.{Mode, ItemStart, Finished, Refused}
-use Rattle.clight_reader.specs.Machine.{next, State, state, gather, step, run, start, ends_in, ends, refused}
+use Rattle.clight_parts.specs.Builds.{trees}
+use Rattle.clight_parts.specs.Forms.{Mode, ItemStart, Finished, Refused}
+use Rattle.clight_parts.specs.Machine.{next, State, state, gather, step, run, start, ends_in, ends, refused}
 use Rattle.clight_reader.specs.Faults.{FaultAt}
 use Rattle.clight_reader.proofs.ReadExpressions.{read}
 use Rattle.clight_reader.proofs.ReadItems.{read_item}

@@ -16,11 +16,11 @@ use Rattle.clight_syntax.specs.declared.tree.Specifiers.{Specifiers}
 use Rattle.clight_syntax.specs.declared.tree.Specifiers.TheVariants as t
 use Rattle.clight_syntax.specs.Trees.{Expr, Variable, Number, Parenthesis, Binary, Prefix, Cast, Index, Select}
 use Rattle.clight_syntax.specs.Spelling.{terminal, name_terminal, binary_symbol, prefix_symbol, member_symbol, type_terminals, expr_terminals, level, HasLevel}
-use Rattle.clight_reader.specs.Builds.{trees}
-use Rattle.clight_reader.specs.Forms.{Form, InBinary, InPrefix, InCast, InParenthesis, InIndex, InTarget, Mode, Operand, Behind, MemberName}
-use Rattle.clight_reader.specs.Expressions.{Settled, settled, settle, binds, is_target, infix_at, operand}
-use Rattle.clight_reader.specs.Statements.{act}
-use Rattle.clight_reader.specs.Machine.{next}
+use Rattle.clight_parts.specs.Builds.{trees}
+use Rattle.clight_parts.specs.Forms.{Form, InBinary, InPrefix, InCast, InParenthesis, InIndex, InTarget, Mode, Operand, Behind, MemberName}
+use Rattle.clight_parts.specs.Expressions.{Settled, settled, settle, binds, is_target, infix_at, operand}
+use Rattle.clight_parts.specs.Statements.{act}
+use Rattle.clight_parts.specs.Machine.{next}
 
 -- the mode behind some terminals
 abbrev pub read : Mode trees → List Terminal → Mode trees

@@ -15,11 +15,11 @@ use Rattle.clight_syntax.specs.declared.tree.SignedNumber.{SignedNumber}
 use Rattle.clight_syntax.specs.declared.tree.EarlierNumber.{EarlierNumber}
 use Rattle.clight_syntax.specs.Trees.{Declared, Declaration, Member, Struct, Initialiser, NoInitialiser, Single, Listed, EarlierParameter, Parameters, NoParameters, Parameters', Header, LocalInitialiser, NoValue, Value, Local, Function, Stmts, NoStmts, Then, Item, StructItem, GlobalItem, PrototypeItem, FunctionItem}
 use Rattle.clight_syntax.specs.Spelling.{terminal, name_terminal, type_terminals, expr_terminals, stmts_terminals, optional, length_terminals, declared_terminals, declaration_terminals, member_terminals, struct_terminals, minus_terminals, number_terminals, earlier_number_terminals, initialiser_terminals, earlier_parameter_terminals, parameters_terminals, header_terminals, local_initialiser_terminals, local_terminals, function_terminals, item_terminals, IsLocalInitialiser, IsLocal, IsFunction, IsItem}
-use Rattle.clight_reader.specs.Builds.{trees}
-use Rattle.clight_reader.specs.Nodes.{make_declared, make_local, with_local, StructFront, FunctionFront, header}
-use Rattle.clight_reader.specs.Forms.{Form, InLocalValue, InLocals, Owner, InSource, InStruct, InFirstParameter, InLaterParameter, InFunction, NumberList, Mode, Operand, Statement, ItemStart, TypeStart, Words, Stars, Named, Lengths, Members, InitialiserStart, InitialiserEnd, ListStart, ListEnd, HeaderEnd, Finished}
-use Rattle.clight_reader.specs.Declarations.{end_declaration, begin_initialiser, longer, signed, make_list}
-use Rattle.clight_reader.specs.Machine.{next}
+use Rattle.clight_parts.specs.Builds.{trees}
+use Rattle.clight_parts.specs.Nodes.{make_declared, make_local, with_local, StructFront, FunctionFront, header}
+use Rattle.clight_parts.specs.Forms.{Form, InLocalValue, InLocals, Owner, InSource, InStruct, InFirstParameter, InLaterParameter, InFunction, NumberList, Mode, Operand, Statement, ItemStart, TypeStart, Words, Stars, Named, Lengths, Members, InitialiserStart, InitialiserEnd, ListStart, ListEnd, HeaderEnd, Finished}
+use Rattle.clight_parts.specs.Declarations.{end_declaration, begin_initialiser, longer, signed, make_list}
+use Rattle.clight_parts.specs.Machine.{next}
 use Rattle.clight_reader.proofs.ReadExpressions.{read, read_closed}
 use Rattle.clight_reader.proofs.ReadStatements.{Heads, heads_append, enter, OfBody, hole, at_heads, read_stmts}
 

@@ -11,12 +11,12 @@ use Rattle.clight_syntax.specs.declared.tree.PrefixOperator.TheVariants as p
 use Rattle.clight_syntax.specs.declared.tree.CallTarget.{CallTarget}
 use Rattle.clight_syntax.specs.Trees.{Expr, Variable, Number, Parenthesis, Binary, Prefix, Cast, Index, Select, Assignment, Test, EarlierArgument, Arguments, NoArguments, Arguments', Call, ForHead, Stmt, Empty, Block, Assign, ReadPort, WritePort, CallOf, If, IfElse, While, Do, For, Break, Continue, Return, Stmts, NoStmts, Then}
 use Rattle.clight_syntax.specs.Spelling.{terminal, expr_terminals, assignment_terminals, optional, test_terminals, earlier_argument_terminals, arguments_terminals, target_terminals, call_terminals, for_terminals, stmt_terminals, stmts_terminals, HasLevel, IsExpression, IsAssignment, IfThere, AreArguments, IsForHead, EndsClosed, IsStatement, AreStatements}
-use Rattle.clight_reader.specs.Builds.{trees}
-use Rattle.clight_reader.specs.Nodes.{ForStart, ForMiddle, FunctionFront, for_start, for_middle, for_head, call}
-use Rattle.clight_reader.specs.Forms.{Place, AsStatement, AsFirst, AsStep, Form, InTarget, InValue, InPortValue, InArguments, InIfTest, InWhileTest, InDoTest, InCondition, InReturn, InIf, InElse, InWhile, InDo, InFor, InBlock, InLocals, InBody, CallPending, Mode, Operand, Statement, ForFirst, ForCondition, ForStep, ReturnWord, FirstArgument, StatementEnd}
-use Rattle.clight_reader.specs.Expressions.{settle, binds}
-use Rattle.clight_reader.specs.Statements.{act, finish, flush, statement, again, may_else}
-use Rattle.clight_reader.specs.Machine.{next}
+use Rattle.clight_parts.specs.Builds.{trees}
+use Rattle.clight_parts.specs.Nodes.{ForStart, ForMiddle, FunctionFront, for_start, for_middle, for_head, call}
+use Rattle.clight_parts.specs.Forms.{Place, AsStatement, AsFirst, AsStep, Form, InTarget, InValue, InPortValue, InArguments, InIfTest, InWhileTest, InDoTest, InCondition, InReturn, InIf, InElse, InWhile, InDo, InFor, InBlock, InLocals, InBody, CallPending, Mode, Operand, Statement, ForFirst, ForCondition, ForStep, ReturnWord, FirstArgument, StatementEnd}
+use Rattle.clight_parts.specs.Expressions.{settle, binds}
+use Rattle.clight_parts.specs.Statements.{act, finish, flush, statement, again, may_else}
+use Rattle.clight_parts.specs.Machine.{next}
 use Rattle.clight_reader.proofs.ReadExpressions.{read, step_after, read_expr, read_closed}
 
 -- ---- where an expression may begin

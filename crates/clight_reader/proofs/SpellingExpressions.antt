@@ -15,12 +15,12 @@ use Rattle.clight_syntax.specs.declared.tree.Specifiers.{Specifiers}
 use Rattle.clight_syntax.specs.declared.tree.Specifiers.TheVariants as t
 use Rattle.clight_syntax.specs.Trees.{Expr, Variable, Binary, Prefix, Cast, Assignment, Stmt, Assign, WritePort, If, IfElse, While, For, Return, Local}
 use Rattle.clight_syntax.specs.Spelling.{terminal, name_terminal, binary_symbol, prefix_symbol, member_symbol, type_terminals, expr_terminals, assignment_terminals, optional, test_terminals, earlier_argument_terminals, target_terminals, for_terminals, stmt_terminals, stmts_terminals, declaration_terminals, header_terminals, local_terminals, level}
-use Rattle.clight_reader.specs.Builds.{trees}
-use Rattle.clight_reader.specs.Nodes.{make_head, with_local, ForMiddle, FunctionFront}
-use Rattle.clight_reader.specs.Forms.{AsStatement, AsFirst, AsStep, Form, InBinary, InPrefix, InCast, InParenthesis, InIndex, InTarget, InValue, InPortValue, InArguments, InIfTest, InWhileTest, InDoTest, InCondition, InReturn, InLocalValue, InIf, InElse, InWhile, InDo, InFor, InBlock, InLocals, InBody, Mode, Operand, CastWords, Refused}
-use Rattle.clight_reader.specs.Expressions.{first_word, with_char, with_int, with_long, next_word, close, settle, Settled, settled, strength, binary_of, binds, mark_level, is_target, infix_at, cast_words, cast_tag, read_pending, operand, member_name, tag_of_cast, in_cast}
-use Rattle.clight_reader.specs.Statements.{finish, flush, close_parenthesis, close_bracket, next_argument, end_expression, begin_value, call_at, mark, act}
-use Rattle.clight_reader.specs.Declarations.{longer}
+use Rattle.clight_parts.specs.Builds.{trees}
+use Rattle.clight_parts.specs.Nodes.{make_head, with_local, ForMiddle, FunctionFront}
+use Rattle.clight_parts.specs.Forms.{AsStatement, AsFirst, AsStep, Form, InBinary, InPrefix, InCast, InParenthesis, InIndex, InTarget, InValue, InPortValue, InArguments, InIfTest, InWhileTest, InDoTest, InCondition, InReturn, InLocalValue, InIf, InElse, InWhile, InDo, InFor, InBlock, InLocals, InBody, Mode, Operand, CastWords, Refused}
+use Rattle.clight_parts.specs.Expressions.{first_word, with_char, with_int, with_long, next_word, close, settle, Settled, settled, strength, binary_of, binds, mark_level, is_target, infix_at, cast_words, cast_tag, read_pending, operand, member_name, tag_of_cast, in_cast}
+use Rattle.clight_parts.specs.Statements.{finish, flush, close_parenthesis, close_bracket, next_argument, end_expression, begin_value, call_at, mark, act}
+use Rattle.clight_parts.specs.Declarations.{longer}
 use Rattle.clight_reader.proofs.OpenForms.{start_terminals, middle_terminals, place_terminals, front_terminals, spell, HasRead}
 
 pub along : (m : Mode trees) (l r : List Terminal) → l ≡ r → HasRead m l → HasRead m r

@@ -10,11 +10,11 @@ use Rattle.clight_syntax.specs.declared.tree.Specifiers.{Specifiers}
 use Rattle.clight_syntax.specs.declared.tree.CallTarget.{CallTarget}
 use Rattle.clight_syntax.specs.Trees.{Stmt, Empty, Block, Return}
 use Rattle.clight_syntax.specs.Spelling.{terminal, name_terminal, type_terminals, expr_terminals, optional, test_terminals, target_terminals, call_terminals, stmt_terminals, stmts_terminals, header_terminals, local_terminals}
-use Rattle.clight_reader.specs.Builds.{trees}
-use Rattle.clight_reader.specs.Nodes.{ForStart, ForMiddle}
-use Rattle.clight_reader.specs.Forms.{Place, AsStatement, AsFirst, AsStep, Form, InTarget, InArguments, InCondition, InReturn, InIf, InBlock, InLocals, InBody, Pending, CallPending, ReadPending, DoPending, BreakPending, ContinuePending, Mode, Statement, DoBody}
-use Rattle.clight_reader.specs.Expressions.{first_word, operand}
-use Rattle.clight_reader.specs.Statements.{finish, flush, ended, close_brace, local_words, local_tag, statement, do_while, again, else_arm, may_else, opened, for_word, for_first, for_condition, for_step, return_word, port_word, first_argument, statement_end}
+use Rattle.clight_parts.specs.Builds.{trees}
+use Rattle.clight_parts.specs.Nodes.{ForStart, ForMiddle}
+use Rattle.clight_parts.specs.Forms.{Place, AsStatement, AsFirst, AsStep, Form, InTarget, InArguments, InCondition, InReturn, InIf, InBlock, InLocals, InBody, Pending, CallPending, ReadPending, DoPending, BreakPending, ContinuePending, Mode, Statement, DoBody}
+use Rattle.clight_parts.specs.Expressions.{first_word, operand}
+use Rattle.clight_parts.specs.Statements.{finish, flush, ended, close_brace, local_words, local_tag, statement, do_while, again, else_arm, may_else, opened, for_word, for_first, for_condition, for_step, return_word, port_word, first_argument, statement_end}
 use Rattle.clight_reader.proofs.OpenForms.{start_terminals, middle_terminals, front_terminals, spell, pending_terminals, HasRead}
 use Rattle.clight_reader.proofs.SpellingExpressions.{along, flush_read, finish_read, finished, words_or, first_word_is, operand_read, inner_shape, behind_shape, head_is}
 

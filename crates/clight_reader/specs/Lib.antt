@@ -1,9 +1,3 @@
 pub mod Faults
+pub mod Readings
 pub mod Reasons
-pub mod Builds
-pub mod Nodes
-pub mod Forms
-pub mod Expressions
-pub mod Statements
-pub mod Declarations
-pub mod Machine

@@ -11,9 +11,9 @@ use Rattle.clight_syntax.specs.declared.tree.MemberOperator.{MemberOperator}
 use Rattle.clight_syntax.specs.declared.tree.Specifiers.{Specifiers}
 use Rattle.clight_syntax.specs.declared.tree.Specifiers.TheVariants as t
 use Rattle.clight_syntax.specs.Spelling.{level, unary_level, postfix_level}
-use Rattle.clight_reader.specs.Builds.{Build}
-use Rattle.clight_reader.specs.Nodes.{ExprOf, variable, constant, binary, prefix, cast, select, make_name}
-use Rattle.clight_reader.specs.Forms.{AsStatement, Form, InBinary, InPrefix, InCast, InParenthesis, InTarget, InValue, Mode, Operand, Behind, CastTag, CastWords, StatementEnd, ReadPending, Refused}
+use Rattle.clight_parts.specs.Builds.{Build}
+use Rattle.clight_parts.specs.Nodes.{ExprOf, variable, constant, binary, prefix, cast, select, make_name}
+use Rattle.clight_parts.specs.Forms.{AsStatement, Form, InBinary, InPrefix, InCast, InParenthesis, InTarget, InValue, Mode, Operand, Behind, CastTag, CastWords, StatementEnd, ReadPending, Refused}
 
 -- ---- the words of a type
 

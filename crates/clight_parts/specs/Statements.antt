@@ -9,10 +9,10 @@ use Rattle.clight_syntax.specs.declared.tree.MemberOperator.TheVariants as m
 use Rattle.clight_syntax.specs.declared.tree.Specifiers.{Specifiers}
 use Rattle.clight_syntax.specs.declared.tree.CallTarget.{CallTarget}
 use Rattle.clight_syntax.specs.Trees.{Expr, Assignment, EarlierArgument}
-use Rattle.clight_reader.specs.Builds.{Build, NotedOf, no_statements, more_statements, noted}
-use Rattle.clight_reader.specs.Nodes.{ExprOf, StmtOf, ForStart, ForMiddle, parenthesis, index, name_of, assignment, test, more_arguments, no_arguments, all_arguments, call, make_target, for_start, for_middle, for_head, nothing, just_expr, just_assignment, empty_statement, assign, read_port, write_port, call_statement, break_statement, continue_statement, return_statement, block, if_statement, if_else, while_statement, do_statement, for_statement, first_value, more_locals, function_item}
-use Rattle.clight_reader.specs.Forms.{AsStatement, AsFirst, AsStep, Form, InParenthesis, InIndex, InTarget, InValue, InPortValue, InArguments, InIfTest, InWhileTest, InDoTest, InCondition, InReturn, InLocalValue, InIf, InElse, InWhile, InDo, InFor, InBlock, InLocals, InBody, InFunction, Pending, CallPending, ReadPending, DoPending, BreakPending, ContinuePending, Mode, Operand, Behind, MemberName, Statement, MayElse, IfWord, WhileWord, DoBody, DoWhile, ForWord, ForFirst, ForCondition, ForStep, ReturnWord, PortWord, FirstArgument, StatementEnd, TagName, Words, Finished, Refused}
-use Rattle.clight_reader.specs.Expressions.{first_word, binary_of, infix_at, operand, Settled}
+use Rattle.clight_parts.specs.Builds.{Build, NotedOf, no_statements, more_statements, noted}
+use Rattle.clight_parts.specs.Nodes.{ExprOf, StmtOf, ForStart, ForMiddle, parenthesis, index, name_of, assignment, test, more_arguments, no_arguments, all_arguments, call, make_target, for_start, for_middle, for_head, nothing, just_expr, just_assignment, empty_statement, assign, read_port, write_port, call_statement, break_statement, continue_statement, return_statement, block, if_statement, if_else, while_statement, do_statement, for_statement, first_value, more_locals, function_item}
+use Rattle.clight_parts.specs.Forms.{AsStatement, AsFirst, AsStep, Form, InParenthesis, InIndex, InTarget, InValue, InPortValue, InArguments, InIfTest, InWhileTest, InDoTest, InCondition, InReturn, InLocalValue, InIf, InElse, InWhile, InDo, InFor, InBlock, InLocals, InBody, InFunction, Pending, CallPending, ReadPending, DoPending, BreakPending, ContinuePending, Mode, Operand, Behind, MemberName, Statement, MayElse, IfWord, WhileWord, DoBody, DoWhile, ForWord, ForFirst, ForCondition, ForStep, ReturnWord, PortWord, FirstArgument, StatementEnd, TagName, Words, Finished, Refused}
+use Rattle.clight_parts.specs.Expressions.{first_word, binary_of, infix_at, operand, Settled}
 
 -- ---- a statement is whole
 

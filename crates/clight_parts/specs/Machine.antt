@@ -8,12 +8,12 @@ use Rattle.clight_syntax.specs.declared.span.Span.{Span}
 use Rattle.clight_syntax.specs.declared.symbol.Symbol.{Symbol}
 use Rattle.clight_syntax.specs.declared.symbol.Terminal.{Terminal}
 use Rattle.clight_syntax.specs.Trees.{Item}
-use Rattle.clight_reader.specs.Builds.{Build, NotedOf}
-use Rattle.clight_reader.specs.Nodes.{no_items, more_items}
-use Rattle.clight_reader.specs.Forms.{InIfTest, InWhileTest, InDoTest, InSource, Mode, Operand, Behind, MemberName, CastTag, CastWords, Statement, MayElse, IfWord, WhileWord, DoBody, DoWhile, ForWord, ForFirst, ForCondition, ForStep, ReturnWord, PortWord, FirstArgument, StatementEnd, ItemStart, TypeStart, TagName, Words, Stars, Named, Lengths, LengthNumber, LengthEnd, Members, StructEnd, InitialiserStart, InitialiserNumber, InitialiserEnd, ListStart, ListNumber, ListEnd, HeaderEnd, Finished, Refused}
-use Rattle.clight_reader.specs.Expressions.{settle, binds, operand, member_name, tag_of_cast, in_cast}
-use Rattle.clight_reader.specs.Statements.{act, statement, do_while, may_else, opened, for_word, for_first, for_condition, for_step, return_word, port_word, first_argument, statement_end}
-use Rattle.clight_reader.specs.Declarations.{type_start, tag_name, words, in_stars, named, lengths, length_number, length_end, next_member, struct_end, initialiser_start, initialiser_number, initialiser_end, list_start, list_number, list_end, header_end}
+use Rattle.clight_parts.specs.Builds.{Build, NotedOf}
+use Rattle.clight_parts.specs.Nodes.{no_items, more_items}
+use Rattle.clight_parts.specs.Forms.{InIfTest, InWhileTest, InDoTest, InSource, Mode, Operand, Behind, MemberName, CastTag, CastWords, Statement, MayElse, IfWord, WhileWord, DoBody, DoWhile, ForWord, ForFirst, ForCondition, ForStep, ReturnWord, PortWord, FirstArgument, StatementEnd, ItemStart, TypeStart, TagName, Words, Stars, Named, Lengths, LengthNumber, LengthEnd, Members, StructEnd, InitialiserStart, InitialiserNumber, InitialiserEnd, ListStart, ListNumber, ListEnd, HeaderEnd, Finished, Refused}
+use Rattle.clight_parts.specs.Expressions.{settle, binds, operand, member_name, tag_of_cast, in_cast}
+use Rattle.clight_parts.specs.Statements.{act, statement, do_while, may_else, opened, for_word, for_first, for_condition, for_step, return_word, port_word, first_argument, statement_end}
+use Rattle.clight_parts.specs.Declarations.{type_start, tag_name, words, in_stars, named, lengths, length_number, length_end, next_member, struct_end, initialiser_start, initialiser_number, initialiser_end, list_start, list_number, list_end, header_end}
 
 abbrev pub next : (b : Build) → Mode b → Symbol → Span → Mode b
 next b (Operand k) y a = operand b k y a

@@ -10,10 +10,10 @@ use Rattle.clight_syntax.specs.declared.tree.Specifiers.TheVariants as t
 use Rattle.clight_syntax.specs.declared.tree.Length.{Length}
 use Rattle.clight_syntax.specs.declared.tree.SignedNumber.{SignedNumber}
 use Rattle.clight_syntax.specs.Trees.{Declared, Declaration, Member, Initialiser, NoInitialiser, Single, Listed, Header}
-use Rattle.clight_reader.specs.Builds.{Build, NotedOf}
-use Rattle.clight_reader.specs.Nodes.{make_name, make_declared, StructFront, no_members, more_members, struct_item, global_item, no_parameters, more_parameters, void_parameters, all_parameters, header, prototype_item, no_locals, no_value, more_locals}
-use Rattle.clight_reader.specs.Forms.{InLocalValue, InLocals, Owner, InSource, InStruct, InFirstParameter, InLaterParameter, InFunction, NumberList, Mode, Operand, Statement, TypeStart, TagName, Words, Stars, Named, Lengths, LengthNumber, LengthEnd, Members, StructEnd, InitialiserStart, InitialiserNumber, InitialiserEnd, ListStart, ListNumber, ListEnd, HeaderEnd, Finished, Refused}
-use Rattle.clight_reader.specs.Expressions.{first_word, next_word}
+use Rattle.clight_parts.specs.Builds.{Build, NotedOf}
+use Rattle.clight_parts.specs.Nodes.{make_name, make_declared, StructFront, no_members, more_members, struct_item, global_item, no_parameters, more_parameters, void_parameters, all_parameters, header, prototype_item, no_locals, no_value, more_locals}
+use Rattle.clight_parts.specs.Forms.{InLocalValue, InLocals, Owner, InSource, InStruct, InFirstParameter, InLaterParameter, InFunction, NumberList, Mode, Operand, Statement, TypeStart, TagName, Words, Stars, Named, Lengths, LengthNumber, LengthEnd, Members, StructEnd, InitialiserStart, InitialiserNumber, InitialiserEnd, ListStart, ListNumber, ListEnd, HeaderEnd, Finished, Refused}
+use Rattle.clight_parts.specs.Expressions.{first_word, next_word}
 
 -- ---- the type and the name
 

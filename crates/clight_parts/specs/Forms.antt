@@ -15,8 +15,8 @@ use Rattle.clight_syntax.specs.declared.tree.CallTarget.{CallTarget}
 use Rattle.clight_syntax.specs.declared.tree.SignedNumber.{SignedNumber}
 use Rattle.clight_syntax.specs.declared.tree.EarlierNumber.{EarlierNumber}
 use Rattle.clight_syntax.specs.Trees.{EarlierArgument, Test, Call, ForHead, Declared, Declaration, Member, EarlierParameter, Header, Initialiser, Item}
-use Rattle.clight_reader.specs.Builds.{Build, NotedOf, StatementsOf}
-use Rattle.clight_reader.specs.Nodes.{ExprOf, StmtOf, ForStart, ForMiddle, StructFront, FunctionFront}
+use Rattle.clight_parts.specs.Builds.{Build, NotedOf, StatementsOf}
+use Rattle.clight_parts.specs.Nodes.{ExprOf, StmtOf, ForStart, ForMiddle, StructFront, FunctionFront}
 
 -- where an assignment stands
 pub data Place (b : Build) : Type 0 where

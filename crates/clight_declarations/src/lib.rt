@@ -1,0 +1,5 @@
+//! The part of the parser's machine that reads declarations.
+#![tactic(auto)]
+
+pub mod declarations;
+pub mod initialisers;

@@ -1,0 +1,5 @@
+use Rattle.clight_statements.proofs.StatementEnds.{no_else}
+use Rattle.clight_statements.proofs.statements.may_else.Goals as goal
+
+pub returns-in_ok-mode-in_default : goal.returns-in_ok-mode-in_default
+returns-in_ok-mode-in_default c = no_else _ _ _ _ _ _ _ c.in_default.not-Else c.in_ok-mode-in_default.ensures c.again.ensures
