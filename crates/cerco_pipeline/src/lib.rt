@@ -1,0 +1,5 @@
+//! The stages of the compiler, one after the other: so far only the tests that join several of its crates.
+#![tactic(auto)]
+
+#[cfg(test)]
+mod labels;
