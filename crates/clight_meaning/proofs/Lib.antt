@@ -1,0 +1,2 @@
+pub mod TreeForms
+pub mod Examples

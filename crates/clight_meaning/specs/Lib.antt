@@ -1,0 +1,4 @@
+pub mod Values
+pub mod Memory
+pub mod Expressions
+pub mod Meaning

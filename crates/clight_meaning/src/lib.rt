@@ -1,0 +1,9 @@
+//! The meaning of a labelled program, as the definitions of `specs/` give it, and an evaluator that runs a program to its next
+//! event.
+#![tactic(auto)]
+
+pub mod turn;
+pub mod value;
+
+pub use turn::Turn;
+pub use value::{Place, Value};
