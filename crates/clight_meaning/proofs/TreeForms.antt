@@ -178,8 +178,8 @@ function result first parameters start locals ss = record {
 abbrev pub variable : CType → Home → t.Variable'
 variable T home = record { name = name; type = T; home = home; address = 0 }
 
-abbrev pub single : ℕ → tree.Initialiser
-single n = tree.Single nowhere (record { minus = None; number = record { value = n; radix = Decimal; unsigned = false }; span = nowhere })
+abbrev pub plain : ℕ → SignedNumber
+plain n = record { minus = None; number = record { value = n; radix = Decimal; unsigned = false }; span = nowhere }
 
 abbrev pub global : tree.Initialiser → ℕ → t.Item
 global first n = t.GlobalItem (record { declaration = declaration; initialiser = first; semicolon = nowhere }) n

@@ -2,3 +2,4 @@ pub mod Values
 pub mod Memory
 pub mod Expressions
 pub mod Meaning
+pub mod Views

@@ -2,6 +2,7 @@
 //! event.
 #![tactic(auto)]
 
+mod integer;
 pub mod turn;
 pub mod value;
 
