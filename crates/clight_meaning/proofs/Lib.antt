@@ -1,2 +1,3 @@
 pub mod TreeForms
 pub mod Examples
+pub mod Shifts
