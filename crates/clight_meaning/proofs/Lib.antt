@@ -1,3 +1,4 @@
 pub mod TreeForms
 pub mod Examples
 pub mod Shifts
+pub mod Holding

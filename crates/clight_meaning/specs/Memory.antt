@@ -104,44 +104,52 @@ cell_of m at = cell_in (live m at) at.offset
 
 -- ---- access
 
+abbrev pub is_kind : Option CType → CType → Bool
+is_kind None T = false
+is_kind (Some S) T = same_type S T
+
+-- whether a scalar of exactly this type begins in a cell
+abbrev pub begins : Option Cell → CType → Bool
+begins None T = false
+begins (Some c) T = is_kind c.kind T
+
+abbrev pub accessed_in : Memory → Result ℕ FaultKind → CType → Result ℕ FaultKind
+accessed_in m (Err k) T = Err k
+accessed_in m (Ok i) T = if begins (slice_get m.cells i) T then Ok i else Err Outside
+
+-- the number of the cell in which a scalar of this type begins at a place
+abbrev pub accessed : Memory → CType → Place → Result ℕ FaultKind
+accessed m T at = accessed_in m (cell_of m at) T
+
 abbrev pub value_set : Option Value → Answer
 value_set None = Err Unset
 value_set (Some w) = Ok w
 
--- the cell, where a scalar of exactly this type begins in it
-abbrev pub typed_by : Option CType → Cell → CType → Result Cell FaultKind
-typed_by None c T = Err Outside
-typed_by (Some S) c T = if same_type S T then Ok c else Err Outside
+abbrev pub value_in : Option Cell → Answer
+value_in None = Err Outside
+value_in (Some c) = value_set c.value
 
-abbrev pub typed : Option Cell → CType → Result Cell FaultKind
-typed None T = Err Outside
-typed (Some c) T = typed_by c.kind c T
-
-abbrev pub held_in : Result Cell FaultKind → Answer
-held_in (Err k) = Err k
-held_in (Ok c) = value_set c.value
-
-abbrev pub loaded_at : Memory → Result ℕ FaultKind → CType → Answer
-loaded_at m (Err k) T = Err k
-loaded_at m (Ok i) T = held_in (typed (slice_get m.cells i) T)
+abbrev pub loaded_at : Memory → Result ℕ FaultKind → Answer
+loaded_at m (Err k) = Err k
+loaded_at m (Ok i) = value_in (slice_get m.cells i)
 
 -- the scalar of this type that a pointer points to
 abbrev pub load : Memory → CType → Value → Answer
-load m T (v.Pointer at) = loaded_at m (cell_of m at) T
+load m T (v.Pointer at) = loaded_at m (accessed m T at)
 load m T v.Null = Err Outside
 load m T (v.Integer n) = Err Outside
 
-abbrev pub put_in : Memory → ℕ → Result Cell FaultKind → Value → Result Memory FaultKind
-put_in m i (Err k) w = Err k
-put_in m i (Ok c) w = Ok (record m { cells = slice_set m.cells i (record { kind = c.kind; value = Some w }) })
+abbrev pub put : Memory → ℕ → Option Cell → Value → Memory
+put m i None w = m
+put m i (Some c) w = record m { cells = slice_set m.cells i (record c { value = Some w }) }
 
-abbrev pub stored_at : Memory → Result ℕ FaultKind → CType → Value → Result Memory FaultKind
-stored_at m (Err k) T w = Err k
-stored_at m (Ok i) T w = put_in m i (typed (slice_get m.cells i) T) w
+abbrev pub stored_at : Memory → Result ℕ FaultKind → Value → Result Memory FaultKind
+stored_at m (Err k) w = Err k
+stored_at m (Ok i) w = Ok (put m i (slice_get m.cells i) w)
 
 -- the memory once the value is stored where the pointer points
 abbrev pub stored : Memory → CType → Value → Value → Result Memory FaultKind
-stored m T (v.Pointer at) w = stored_at m (cell_of m at) T w
+stored m T (v.Pointer at) w = stored_at m (accessed m T at) w
 stored m T v.Null w = Err Outside
 stored m T (v.Integer n) w = Err Outside
 

@@ -1,5 +1,19 @@
 -- What the evaluator holds, as the definitions speak of it.
+use Rattle.std.specs.Prelude.{◌≡◌, ℕ, List, map, option_map, Option, Some, None, Result, Ok, Err}
+use Rattle.std.specs.Borrow.{Bor}
+use Rattle.cerco_base.specs.declared.events.FaultKind.{FaultKind}
 use Rattle.clight_syntax.specs.Types as s
+use Rattle.clight_syntax.specs.declared.typed.StructType.{StructType}
+use Rattle.clight_syntax.specs.TypedViews.{struct_type_of}
+use Rattle.clight_meaning.specs.Memory as m
+use Rattle.clight_meaning.specs.declared.memory.Cell.{Cell}
+use Rattle.clight_meaning.specs.declared.memory.Memory.{Memory}
+use Rattle.clight_syntax.specs.declared.types.Ty.{Ty}
+use Rattle.clight_meaning.specs.Expressions as e
+use Rattle.clight_meaning.specs.declared.state.Frame.{Frame}
+use Rattle.clight_meaning.specs.declared.state.State.{State}
+use Rattle.clight_meaning.specs.declared.state.Position.{Position}
+use Rattle.clight_meaning.specs.declared.state.Position.TheVariants.{InCall, Behind}
 use Rattle.clight_meaning.specs.declared.integer.Size.{Size}
 use Rattle.clight_meaning.specs.declared.integer.Size.TheVariants.{One, Two, Four}
 use Rattle.clight_meaning.specs.declared.integer.IntegerType.{IntegerType}
@@ -12,3 +26,37 @@ size_held Four = s.Four
 
 abbrev pub integer_held : IntegerType → v.IntegerType
 integer_held T = record { size = size_held T.size; signed = T.signed }
+
+abbrev pub structs_held : List StructType → List s.StructType
+structs_held structs = map struct_type_of structs
+
+abbrev pub kind_held : Bor Ty → s.CType
+kind_held ty = s.type_of ty.now
+
+abbrev pub cell_held : Cell → m.Cell
+cell_held c = record { kind = option_map kind_held c.kind; value = c.value }
+
+abbrev pub cells_held : List Cell → List m.Cell
+cells_held cells = map cell_held cells
+
+abbrev pub memory_held : Memory → m.Memory
+memory_held memory = record { cells = cells_held memory.cells.items; blocks = memory.blocks.items }
+
+abbrev pub frame_held : Frame → m.Frame
+frame_held f = record { blocks = f.blocks; cells = f.cells; call = f.call; depth = f.depth; result = s.type_of f.result.now; scalars = f.scalars.items }
+
+abbrev pub state_held : State → m.State
+state_held st = record { memory = memory_held st.memory; made = st.made; frame = frame_held st.frame; script = st.script.now }
+
+abbrev pub position_held : Position → e.Position
+position_held (InCall n) = e.InCall n
+position_held (Behind p) = e.Behind p
+
+abbrev pub positions_held : Result Position FaultKind → Result e.Position FaultKind
+positions_held (Err k) = Err k
+positions_held (Ok at) = Ok (position_held at)
+
+-- what is held now, once something was done with what was held before, or why it wasn't done, with what was held before
+abbrev pub Becomes : {S R : Type 0} → Result S FaultKind → S → S → Result R FaultKind → Type 0
+Becomes made old new (Ok r) = made ≡ Ok new
+Becomes made old new (Err k) = (made ≡ Err k) × (new ≡ old)

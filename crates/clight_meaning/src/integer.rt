@@ -1,5 +1,5 @@
 //! The arithmetic of integers, by the bits of their types (ISO/IEC 9899:1999, 6.3.1 and 6.5.3 to 6.5.12).
-ghost use Rattle.std.specs.Prelude.{◌≡◌, ◌<◌, ◌^◌, ◌%◌, ◌/◌};
+ghost use Rattle.std.specs.Prelude.{◌≡◌, ◌<◌, ◌≤◌, ◌^◌, ◌%◌, ◌/◌};
 ghost use Rattle.clight_meaning.specs.Values as v;
 ghost use Rattle.clight_meaning.specs.Views.{size_held, integer_held};
 
@@ -27,7 +27,7 @@ impl IntegerType {
     fn count(self) -> u64
         ensures value { result ≡ v.count (size_held self.size) }
         ensures some { 0 < result }
-        ensures few { result < 2 ^ 33 }
+        ensures few { result ≤ 2 ^ 32 }
     {
         match self.size {
             Size::One => 0x100,
@@ -55,9 +55,9 @@ impl IntegerType {
     }
 
     /// How far it is from 0.
-    fn magnitude(self, x: u32) -> u64
+    pub(crate) fn magnitude(self, x: u32) -> u64
         ensures value { result ≡ v.magnitude (integer_held self) x }
-        ensures few { result < 2 ^ 33 }
+        ensures few { result ≤ 2 ^ 32 }
     {
         if self.is_negative(x) {
             self.count().saturating_sub(u64::from(x))

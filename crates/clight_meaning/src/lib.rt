@@ -3,6 +3,9 @@
 #![tactic(auto)]
 
 mod integer;
+mod lookup;
+mod memory;
+mod state;
 pub mod turn;
 pub mod value;
 

@@ -1,0 +1,372 @@
+//! The memory of a run.
+ghost use Rattle.std.specs.Prelude.{◌≡◌, ℕ, ◌<◌, ◌≤◌, ◌+◌, ◌^◌, ◌++◌, IfOk, OnOk, min, map, vec_len, length, [], Ok, ◌*◌};
+ghost use Rattle.clight_syntax.specs.Types.{type_of, size_of};
+ghost use Rattle.clight_meaning.specs.Memory as m;
+ghost use Rattle.clight_meaning.specs.Views.{integer_held, cell_held, cells_held, memory_held, structs_held, kind_held, Becomes};
+
+use crate::integer::IntegerType;
+use crate::lookup::item_at;
+use crate::value::{Block, Place, Value};
+use cerco_base::{FaultKind, NoMemory};
+use clight_syntax::typed::StructType;
+use clight_syntax::Ty;
+use std::alloc::Global;
+
+/// A byte of a live block: the type of the scalar that begins there, if one does, and its value, if it is set.
+#[derive(Clone, Copy)]
+pub(crate) struct Cell<'a> {
+    pub(crate) kind: Option<&'a Ty>,
+    pub(crate) value: Option<Value>,
+}
+
+/// The live blocks, the oldest first.
+#[derive(Drop)]
+pub(crate) struct Memory<'a> {
+    cells: Vec<Cell<'a>>,
+    blocks: Vec<Block>,
+}
+
+/// Whether two types are the same.
+pub(crate) fn same_type(left: &Ty, right: &Ty) -> bool
+    ensures { result ≡ m.same_type (type_of left.now) (type_of right.now) }
+{
+    match left {
+        Ty::Void => matches!(right, Ty::Void),
+        Ty::U8 => matches!(right, Ty::U8),
+        Ty::I8 => matches!(right, Ty::I8),
+        Ty::I16 => matches!(right, Ty::I16),
+        Ty::U16 => matches!(right, Ty::U16),
+        Ty::I32 => matches!(right, Ty::I32),
+        Ty::U32 => matches!(right, Ty::U32),
+        Ty::Pointer(left) => match right {
+            Ty::Pointer(right) => same_type(left, right),
+            _ => false,
+        },
+        Ty::Array(left, count) => match right {
+            Ty::Array(right, other) => *count == *other && same_type(left, right),
+            _ => false,
+        },
+        Ty::Struct(number) => match right {
+            Ty::Struct(other) => *number == *other,
+            _ => false,
+        },
+    }
+}
+
+impl<'a> Memory<'a> {
+    /// Without a block.
+    pub(crate) fn new(alloc: Global) -> Memory<'a>
+        ensures { memory_held result ≡ record { cells = []; blocks = [] } }
+    {
+        Memory {
+            cells: Vec::new(alloc),
+            blocks: Vec::new(alloc),
+        }
+    }
+
+    /// The block of a place, if it lives.
+    fn live(&self, at: Place) -> Result<Block, FaultKind>
+        ensures { result ≡ m.live (memory_held self.now) at }
+    {
+        if at.slot >= self.blocks.len() {
+            return Err(FaultKind::Dead);
+        }
+        let block = self.blocks[at.slot];
+        if block.call == at.call {
+            Ok(block)
+        } else {
+            Err(FaultKind::Dead)
+        }
+    }
+
+    /// The number of the cell in which a scalar of this type begins at a place.
+    fn accessed(&self, ty: &Ty, at: Place) -> Result<usize, FaultKind>
+        ensures value { result ≡ m.accessed (memory_held self.now) (type_of ty.now) at }
+        ensures within { IfOk result (λ i. i < length self.now.cells.items) }
+    {
+        let block = match self.live(at) {
+            Err(kind) => return Err(kind),
+            Ok(block) => block,
+        };
+        if at.offset >= block.size {
+            return Err(FaultKind::Outside);
+        }
+        let Some(i) = block.begin.checked_add(at.offset as usize) else {
+            return Err(FaultKind::Outside);
+        };
+        if i >= self.cells.len() {
+            return Err(FaultKind::Outside);
+        }
+        match self.cells[i].kind {
+            None => Err(FaultKind::Outside),
+            Some(kind) => {
+                if same_type(kind, ty) {
+                    Ok(i)
+                } else {
+                    Err(FaultKind::Outside)
+                }
+            }
+        }
+    }
+
+    /// The scalar of this type that a pointer points to.
+    pub(crate) fn load(&self, ty: &Ty, pointer: Value) -> Result<Value, FaultKind>
+        ensures { result ≡ m.load (memory_held self.now) (type_of ty.now) pointer }
+    {
+        match pointer {
+            Value::Pointer(at) => match self.accessed(ty, at) {
+                Err(kind) => Err(kind),
+                Ok(i) => match self.cells[i].value {
+                    None => Err(FaultKind::Unset),
+                    Some(value) => Ok(value),
+                },
+            },
+            _ => Err(FaultKind::Outside),
+        }
+    }
+
+    /// Stores a scalar of this type where a pointer points. After a fault nothing has changed.
+    pub(crate) fn store(&mut self, ty: &Ty, pointer: Value, value: Value) -> Result<(), FaultKind>
+        ensures { Becomes (m.stored (memory_held self.old) (type_of ty.now) pointer value) (memory_held self.old) (memory_held self.new) result }
+    {
+        match pointer {
+            Value::Pointer(at) => match self.accessed(ty, at) {
+                Err(kind) => Err(kind),
+                Ok(i) => {
+                    let kind = self.cells[i].kind;
+                    self.cells[i] = Cell {
+                        kind,
+                        value: Some(value),
+                    };
+                    Ok(())
+                }
+            },
+            _ => Err(FaultKind::Outside),
+        }
+    }
+
+    /// A pointer so many bytes further on, or back. The number of bytes is told up to 2 to the 32nd.
+    pub(crate) fn moved(&self, pointer: Value, back: bool, by: u64) -> Result<Value, FaultKind>
+        ensures { (n : ℕ) → by ≡ min n (2 ^ 32) → result ≡ m.moved (memory_held self.now) pointer back n }
+    {
+        let Value::Pointer(at) = pointer else {
+            return Err(FaultKind::Outside);
+        };
+        match self.live(at) {
+            Err(kind) => Err(kind),
+            Ok(block) => moved_in(block, at, back, by),
+        }
+    }
+
+    /// A pointer that steps over elements of a type by an integer of a type, or back.
+    pub(crate) fn stepped(
+        &self,
+        structs: &[StructType],
+        element: &Ty,
+        back: bool,
+        pointer: Value,
+        integer: IntegerType,
+        by: Value,
+    ) -> Result<Value, FaultKind>
+        ensures { result ≡ m.stepped (memory_held self.now) (size_of (structs_held structs.now) (type_of element.now)) back pointer (integer_held integer) by }
+    {
+        let Value::Integer(n) = by else {
+            return Err(FaultKind::Outside);
+        };
+        let bytes = scaled(integer.magnitude(n), size_of(structs, element));
+        self.moved(pointer, back != integer.is_negative(n), bytes)
+    }
+
+    /// Whether a value counts as true.
+    pub(crate) fn is_true(&self, value: Value) -> Result<bool, FaultKind>
+        ensures { result ≡ m.is_true (memory_held self.now) value }
+    {
+        match value {
+            Value::Integer(n) => Ok(n != 0),
+            Value::Null => Ok(false),
+            Value::Pointer(at) => match self.live(at) {
+                Err(kind) => Err(kind),
+                Ok(_) => Ok(true),
+            },
+        }
+    }
+
+    /// Whether two pointers are equal.
+    pub(crate) fn equal(&self, left: Value, right: Value) -> Result<bool, FaultKind>
+        ensures { result ≡ m.equal (memory_held self.now) left right }
+    {
+        match left {
+            Value::Pointer(p) => match right {
+                Value::Pointer(q) => equal_in(self.live(p), self.live(q), p, q),
+                _ => differs_from_null(self.live(p)),
+            },
+            _ => match right {
+                Value::Pointer(q) => differs_from_null(self.live(q)),
+                _ => Ok(true),
+            },
+        }
+    }
+
+    /// Whether the first of two pointers stands before the second.
+    pub(crate) fn less(&self, left: Value, right: Value) -> Result<bool, FaultKind>
+        ensures { result ≡ m.less (memory_held self.now) left right }
+    {
+        match left {
+            Value::Pointer(p) => match right {
+                Value::Pointer(q) => less_in(self.live(p), self.live(q), p, q),
+                _ => without_order(self.live(p)),
+            },
+            _ => match right {
+                Value::Pointer(q) => without_order(self.live(q)),
+                _ => Err(FaultKind::Compare),
+            },
+        }
+    }
+
+    /// How many blocks live.
+    pub(crate) fn blocks(&self) -> usize
+        ensures { result ≡ length (memory_held self.now).blocks }
+    {
+        self.blocks.len()
+    }
+
+    /// How many bytes they have.
+    pub(crate) fn cells(&self) -> usize
+        ensures { result ≡ length (memory_held self.now).cells }
+    {
+        self.cells.len()
+    }
+
+    /// Only the first so many blocks and bytes live on.
+    pub(crate) fn leave(&mut self, blocks: usize, cells: usize)
+        ensures { memory_held self.new ≡ m.left blocks cells (memory_held self.old) }
+    {
+        self.blocks.truncate(blocks);
+        self.cells.truncate(cells);
+    }
+}
+
+fn moved_in(block: Block, at: Place, back: bool, by: u64) -> Result<Value, FaultKind>
+    ensures { (n : ℕ) → by ≡ min n (2 ^ 32) → result ≡ m.moved_in (Ok block) at back n }
+{
+    let offset = u64::from(at.offset);
+    let size = u64::from(block.size);
+    let offset = if back {
+        if offset < by {
+            return Err(FaultKind::Outside);
+        }
+        offset - by
+    } else {
+        if by > 0xFFFF_FFFF || size < offset + by {
+            return Err(FaultKind::Outside);
+        }
+        offset + by
+    };
+    Ok(Value::Pointer(Place {
+        slot: at.slot,
+        call: at.call,
+        offset: offset as u32,
+    }))
+}
+
+/// So many elements of so many bytes. Numbers are told up to 2 to the 32nd.
+fn scaled(count: u64, size: u64) -> u64
+    requires { count ≤ 2 ^ 32 }
+    ensures { (n : ℕ) → size ≡ min n (2 ^ 32) → result ≡ min (count * n) (2 ^ 32) }
+{
+    count.saturating_mul(size).min(0x1_0000_0000)
+}
+
+fn bytes_of(found: &StructType) -> u64
+    ensures value { result ≡ found.now.size }
+    ensures few { result < 2 ^ 32 }
+{
+    u64::from(found.size)
+}
+
+/// How many bytes a type has, up to 2 to the 32nd.
+pub(crate) fn size_of(structs: &[StructType], ty: &Ty) -> u64
+    ensures { result ≡ min (size_of (structs_held structs.now) (type_of ty.now)) (2 ^ 32) }
+{
+    match ty {
+        Ty::Void => 0,
+        Ty::U8 => 1,
+        Ty::I8 => 1,
+        Ty::I16 => 2,
+        Ty::U16 => 2,
+        Ty::I32 => 4,
+        Ty::U32 => 4,
+        Ty::Pointer(_) => 2,
+        Ty::Array(element, count) => scaled(u64::from(*count), size_of(structs, element)),
+        Ty::Struct(number) => match item_at(structs, *number as usize) {
+            None => 0,
+            Some(found) => bytes_of(found),
+        },
+    }
+}
+
+fn equal_in(
+    left: Result<Block, FaultKind>,
+    right: Result<Block, FaultKind>,
+    p: Place,
+    q: Place,
+) -> Result<bool, FaultKind>
+    ensures { result ≡ m.equal_in left right p q }
+{
+    match left {
+        Err(kind) => Err(kind),
+        Ok(a) => match right {
+            Err(kind) => Err(kind),
+            Ok(b) => {
+                if p.slot == q.slot {
+                    Ok(p.offset == q.offset)
+                } else if p.offset == a.size || q.offset == b.size {
+                    Err(FaultKind::Compare)
+                } else {
+                    Ok(false)
+                }
+            }
+        },
+    }
+}
+
+fn differs_from_null(block: Result<Block, FaultKind>) -> Result<bool, FaultKind>
+    ensures { result ≡ m.differs_from_null block }
+{
+    match block {
+        Err(kind) => Err(kind),
+        Ok(_) => Ok(false),
+    }
+}
+
+fn less_in(
+    left: Result<Block, FaultKind>,
+    right: Result<Block, FaultKind>,
+    p: Place,
+    q: Place,
+) -> Result<bool, FaultKind>
+    ensures { result ≡ m.less_in left right p q }
+{
+    match left {
+        Err(kind) => Err(kind),
+        Ok(_) => match right {
+            Err(kind) => Err(kind),
+            Ok(_) => {
+                if p.slot == q.slot {
+                    Ok(p.offset < q.offset)
+                } else {
+                    Err(FaultKind::Compare)
+                }
+            }
+        },
+    }
+}
+
+fn without_order(block: Result<Block, FaultKind>) -> Result<bool, FaultKind>
+    ensures { result ≡ m.without_order block }
+{
+    match block {
+        Err(kind) => Err(kind),
+        Ok(_) => Err(FaultKind::Compare),
+    }
+}
