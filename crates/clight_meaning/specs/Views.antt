@@ -27,6 +27,9 @@ size_held Four = s.Four
 abbrev pub integer_held : IntegerType → v.IntegerType
 integer_held T = record { size = size_held T.size; signed = T.signed }
 
+abbrev pub integers_held : Option IntegerType → Option v.IntegerType
+integers_held T = option_map integer_held T
+
 abbrev pub structs_held : List StructType → List s.StructType
 structs_held structs = map struct_type_of structs
 

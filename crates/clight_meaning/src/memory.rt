@@ -158,22 +158,22 @@ impl<'a> Memory<'a> {
         }
     }
 
-    /// A pointer that steps over elements of a type by an integer of a type, or back.
+    /// A pointer that steps over elements of so many bytes by an integer of a type, or back. The number of bytes is told up to 2
+    /// to the 32nd.
     pub(crate) fn stepped(
         &self,
-        structs: &[StructType],
-        element: &Ty,
+        size: u64,
         back: bool,
         pointer: Value,
         integer: IntegerType,
         by: Value,
     ) -> Result<Value, FaultKind>
-        ensures { result ≡ m.stepped (memory_held self.now) (size_of (structs_held structs.now) (type_of element.now)) back pointer (integer_held integer) by }
+        ensures { (n : ℕ) → size ≡ min n (2 ^ 32) → result ≡ m.stepped (memory_held self.now) n back pointer (integer_held integer) by }
     {
         let Value::Integer(n) = by else {
             return Err(FaultKind::Outside);
         };
-        let bytes = scaled(integer.magnitude(n), size_of(structs, element));
+        let bytes = scaled(integer.magnitude(n), size);
         self.moved(pointer, back != integer.is_negative(n), bytes)
     }
 
