@@ -4,7 +4,9 @@ use Rattle.std.specs.Borrow.{Bor}
 use Rattle.cerco_base.specs.declared.events.FaultKind.{FaultKind}
 use Rattle.clight_syntax.specs.Types as s
 use Rattle.clight_syntax.specs.declared.typed.StructType.{StructType}
-use Rattle.clight_syntax.specs.TypedViews.{struct_type_of}
+use Rattle.clight_syntax.specs.TypedViews.{struct_type_of, variable_of}
+use Rattle.clight_syntax.specs.TypedTrees.{Variable'}
+use Rattle.clight_syntax.specs.declared.typed.Variable.{Variable}
 use Rattle.clight_meaning.specs.Memory as m
 use Rattle.clight_meaning.specs.declared.memory.Cell.{Cell}
 use Rattle.clight_meaning.specs.declared.memory.Memory.{Memory}
@@ -32,6 +34,9 @@ integers_held T = option_map integer_held T
 
 abbrev pub structs_held : List StructType → List s.StructType
 structs_held structs = map struct_type_of structs
+
+abbrev pub variables_held : List Variable → List Variable'
+variables_held variables = map variable_of variables
 
 abbrev pub kind_held : Bor Ty → s.CType
 kind_held ty = s.type_of ty.now

@@ -1,11 +1,11 @@
 //! The state of a run, and the values of expressions in it.
-ghost use Rattle.std.specs.Prelude.{◌≡◌, ℕ, ◌^◌, min};
+ghost use Rattle.std.specs.Prelude.{◌≡◌, ℕ, ◌^◌, min, slice_get, unwrap_or};
 ghost use Rattle.clight_syntax.specs.Types.{type_of, size_of};
 ghost use Rattle.clight_syntax.specs.TypedViews.{expr_of, program_of};
 ghost use Rattle.clight_syntax.specs.TypedTrees.{type_at};
 ghost use Rattle.clight_meaning.specs.Memory as m;
 ghost use Rattle.clight_meaning.specs.Expressions as e;
-ghost use Rattle.clight_meaning.specs.Views.{integer_held, integers_held, memory_held, structs_held, position_held, positions_held, state_held};
+ghost use Rattle.clight_meaning.specs.Views.{Becomes, integer_held, integers_held, variables_held, frame_held, memory_held, structs_held, position_held, positions_held, state_held};
 
 use crate::integer::{combined, truth, IntegerType, Size};
 use crate::lookup::item_at;
@@ -252,6 +252,143 @@ impl<'a> Memory<'a> {
                 }
                 None => self.of_pointers(operator, x, y),
             },
+        }
+    }
+}
+
+fn negated(integer: Option<IntegerType>, value: Value) -> Result<Value, FaultKind>
+    ensures { result ≡ e.negated (integers_held integer) value }
+{
+    match integer {
+        None => Err(FaultKind::Outside),
+        Some(ty) => match value {
+            Value::Integer(n) => {
+                let promoted = ty.promoted();
+                Ok(Value::Integer(
+                    promoted.difference(0, ty.converted(promoted, n)),
+                ))
+            }
+            _ => Err(FaultKind::Outside),
+        },
+    }
+}
+
+fn complemented(integer: Option<IntegerType>, value: Value) -> Result<Value, FaultKind>
+    ensures { result ≡ e.complemented (integers_held integer) value }
+{
+    match integer {
+        None => Err(FaultKind::Outside),
+        Some(ty) => match value {
+            Value::Integer(n) => {
+                let promoted = ty.promoted();
+                Ok(Value::Integer(
+                    promoted.complement(ty.converted(promoted, n)),
+                ))
+            }
+            _ => Err(FaultKind::Outside),
+        },
+    }
+}
+
+fn behind(pointer: Result<Value, FaultKind>) -> Result<Position, FaultKind>
+    ensures { positions_held result ≡ e.behind pointer }
+{
+    match pointer {
+        Err(kind) => Err(kind),
+        Ok(pointer) => Ok(Position::Behind(pointer)),
+    }
+}
+
+fn pointer_to(position: Result<Position, FaultKind>) -> Result<Value, FaultKind>
+    ensures { result ≡ e.pointer_to (positions_held position) }
+{
+    match position {
+        Err(kind) => Err(kind),
+        Ok(Position::InCall(_)) => Err(FaultKind::Outside),
+        Ok(Position::Behind(pointer)) => Ok(pointer),
+    }
+}
+
+impl<'a> Frame<'a> {
+    fn home_position(&self, home: Home) -> Position
+        ensures { position_held result ≡ e.home_position home (frame_held self.now) }
+    {
+        match home {
+            Home::Global(block) => Position::Behind(Value::Pointer(Place {
+                slot: block as usize,
+                call: 0,
+                offset: 0,
+            })),
+            Home::Block(block) => Position::Behind(Value::Pointer(Place {
+                slot: self.blocks as usize + block as usize,
+                call: self.call,
+                offset: 0,
+            })),
+            Home::Scalar(number) => Position::InCall(number),
+        }
+    }
+
+    /// The position of the variable with this number.
+    pub(crate) fn variable_position(&self, variables: &[Variable], number: u32) -> Position
+        ensures { position_held result ≡ e.position_in (slice_get (variables_held variables.now) number) (frame_held self.now) }
+    {
+        match item_at(variables, number as usize) {
+            None => Position::Behind(Value::Null),
+            Some(variable) => self.home_position(variable.home),
+        }
+    }
+}
+
+impl<'a> State<'a> {
+    fn load(&self, ty: &Ty, position: Result<Position, FaultKind>) -> Result<Value, FaultKind>
+        ensures { result ≡ e.loaded (type_of ty.now) (positions_held position) (state_held self.now) }
+    {
+        match position {
+            Err(kind) => Err(kind),
+            Ok(Position::InCall(number)) => Ok(self.scalar(number)),
+            Ok(Position::Behind(pointer)) => self.memory.load(ty, pointer),
+        }
+    }
+
+    fn scalar(&self, number: u32) -> Value
+        ensures { result ≡ unwrap_or (slice_get self.now.frame.scalars.items number) (Value.Integer 0) }
+    {
+        match item_at(&self.frame.scalars, number as usize) {
+            None => Value::Integer(0),
+            Some(value) => *value,
+        }
+    }
+
+    /// The value of a place of this type.
+    fn value_at(&self, ty: &Ty, position: Result<Position, FaultKind>) -> Result<Value, FaultKind>
+        ensures { result ≡ e.value_at (type_of ty.now) (positions_held position) (state_held self.now) }
+    {
+        if is_array(ty) {
+            pointer_to(position)
+        } else {
+            self.load(ty, position)
+        }
+    }
+
+    /// Stores a value of this type at a place. After a fault nothing has changed.
+    pub(crate) fn store(&mut self, ty: &Ty, position: Position, value: Value) -> Result<(), FaultKind>
+        ensures { Becomes (e.stored_in (type_of ty.now) (position_held position) value (state_held self.old)) (state_held self.old) (state_held self.new) result }
+    {
+        match position {
+            Position::InCall(number) => {
+                self.set_scalar(number, value);
+                Ok(())
+            }
+            Position::Behind(pointer) => self.memory.store(ty, pointer, value),
+        }
+    }
+
+    fn set_scalar(&mut self, number: u32, value: Value)
+        ensures { state_held self.new ≡ e.set_scalar number value (state_held self.old) }
+    {
+        let number = number as usize;
+        if number < self.frame.scalars.len() {
+            self.frame.scalars[number] = value;
         }
     }
 }
