@@ -1,5 +1,5 @@
 //! The state of a run, and the values of expressions in it.
-ghost use Rattle.std.specs.Prelude.{◌≡◌, ℕ, ◌^◌, min, slice_get, unwrap_or};
+ghost use Rattle.std.specs.Prelude.{◌≡◌, ℕ, ◌^◌, min, slice_get, unwrap_or, false};
 ghost use Rattle.clight_syntax.specs.Types.{type_of, size_of};
 ghost use Rattle.clight_syntax.specs.TypedViews.{expr_of, program_of};
 ghost use Rattle.clight_syntax.specs.TypedTrees.{type_at};
@@ -390,5 +390,193 @@ impl<'a> State<'a> {
         if number < self.frame.scalars.len() {
             self.frame.scalars[number] = value;
         }
+    }
+}
+
+impl<'a> State<'a> {
+    /// The position of a place, or the first fault.
+    #[cycle(evaluation)]
+    pub(crate) fn position(
+        &self,
+        program: &TypedProgram<Label>,
+        expression: &Expr,
+    ) -> Result<Position, FaultKind>
+        ensures { positions_held result ≡ e.position (program_of program.now) (expr_of expression.now) (state_held self.now) }
+    {
+        match expression {
+            Expr::Variable(_, number, _) => {
+                Ok(self.frame.variable_position(&program.variables, *number))
+            }
+            Expr::Parenthesis(_, _, inner, _) => self.position(program, inner),
+            Expr::Prefix(_, operator, _, inner) => match operator {
+                PrefixOperator::Dereference => behind(self.value(program, inner)),
+                _ => Err(FaultKind::Outside),
+            },
+            Expr::Index(ty, base, _, index, _) => behind(self.indexed(
+                &program.structs,
+                ty,
+                self.value(program, base),
+                type_at(index),
+                self.value(program, index),
+            )),
+            Expr::Member(_, inner, operator, _, _, offset) => match operator {
+                MemberOperator::Dot => {
+                    behind(self.selected(pointer_to(self.position(program, inner)), *offset))
+                }
+                MemberOperator::Arrow => {
+                    behind(self.selected(self.value(program, inner), *offset))
+                }
+            },
+            _ => Err(FaultKind::Outside),
+        }
+    }
+
+    /// The value of an expression, or the first fault.
+    #[cycle(evaluation)]
+    pub(crate) fn value(
+        &self,
+        program: &TypedProgram<Label>,
+        expression: &Expr,
+    ) -> Result<Value, FaultKind>
+        ensures { result ≡ e.value (program_of program.now) (expr_of expression.now) (state_held self.now) }
+    {
+        match expression {
+            Expr::Variable(ty, number, _) => {
+                let position = self.frame.variable_position(&program.variables, *number);
+                self.value_at(ty, Ok(position))
+            }
+            Expr::Number(_, literal, _) => Ok(Value::Integer(literal.value)),
+            Expr::Parenthesis(_, _, inner, _) => self.value(program, inner),
+            Expr::Binary(_, left, operator, _, right) => self.binary(
+                &program.structs,
+                *operator,
+                type_at(left),
+                self.value(program, left),
+                type_at(right),
+                self.value(program, right),
+            ),
+            Expr::Prefix(ty, operator, _, inner) => match operator {
+                PrefixOperator::Negate => {
+                    negated_answer(type_at(inner), self.value(program, inner))
+                }
+                PrefixOperator::Complement => {
+                    complemented_answer(type_at(inner), self.value(program, inner))
+                }
+                PrefixOperator::Dereference => {
+                    self.value_at(ty, behind(self.value(program, inner)))
+                }
+                PrefixOperator::AddressOf => pointer_to(self.position(program, inner)),
+                PrefixOperator::Not => Err(FaultKind::Outside),
+            },
+            Expr::Cast(ty, _, _, _, inner) => {
+                converted_answer(type_at(inner), ty, self.value(program, inner))
+            }
+            Expr::Index(ty, base, _, index, _) => self.value_at(
+                ty,
+                behind(self.indexed(
+                    &program.structs,
+                    ty,
+                    self.value(program, base),
+                    type_at(index),
+                    self.value(program, index),
+                )),
+            ),
+            Expr::Member(ty, inner, operator, _, _, offset) => match operator {
+                MemberOperator::Dot => self.value_at(
+                    ty,
+                    behind(self.selected(pointer_to(self.position(program, inner)), *offset)),
+                ),
+                MemberOperator::Arrow => self.value_at(
+                    ty,
+                    behind(self.selected(self.value(program, inner), *offset)),
+                ),
+            },
+        }
+    }
+
+    fn indexed(
+        &self,
+        structs: &[StructType],
+        element: &Ty,
+        base: Result<Value, FaultKind>,
+        ty: &Ty,
+        index: Result<Value, FaultKind>,
+    ) -> Result<Value, FaultKind>
+        ensures { result ≡ e.both (λ x i. e.indexed (structs_held structs.now) (memory_held self.now.memory) (type_of element.now) x (e.integer_type (type_of ty.now)) i) base index }
+    {
+        match base {
+            Err(kind) => Err(kind),
+            Ok(pointer) => match index {
+                Err(kind) => Err(kind),
+                Ok(by) => match integer_type(ty) {
+                    None => Err(FaultKind::Outside),
+                    Some(integer) => {
+                        let size = bytes_in(structs, element);
+                        self.memory.stepped(size, false, pointer, integer, by)
+                    }
+                },
+            },
+        }
+    }
+
+    fn selected(&self, pointer: Result<Value, FaultKind>, offset: u32) -> Result<Value, FaultKind>
+        ensures { result ≡ e.then_value pointer (λ x. m.moved (memory_held self.now.memory) x false offset) }
+    {
+        match pointer {
+            Err(kind) => Err(kind),
+            Ok(pointer) => self.memory.moved(pointer, false, u64::from(offset)),
+        }
+    }
+
+    fn binary(
+        &self,
+        structs: &[StructType],
+        operator: BinaryOperator,
+        left: &Ty,
+        x: Result<Value, FaultKind>,
+        right: &Ty,
+        y: Result<Value, FaultKind>,
+    ) -> Result<Value, FaultKind>
+        ensures { result ≡ e.both (e.operated (structs_held structs.now) (memory_held self.now.memory) operator (type_of left.now) (type_of right.now)) x y }
+    {
+        match x {
+            Err(kind) => Err(kind),
+            Ok(x) => match y {
+                Err(kind) => Err(kind),
+                Ok(y) => self.memory.operated(structs, operator, left, right, x, y),
+            },
+        }
+    }
+}
+
+fn negated_answer(ty: &Ty, value: Result<Value, FaultKind>) -> Result<Value, FaultKind>
+    ensures { result ≡ e.then_value value (e.negated (e.integer_type (type_of ty.now))) }
+{
+    match value {
+        Err(kind) => Err(kind),
+        Ok(value) => negated(integer_type(ty), value),
+    }
+}
+
+fn complemented_answer(ty: &Ty, value: Result<Value, FaultKind>) -> Result<Value, FaultKind>
+    ensures { result ≡ e.then_value value (e.complemented (e.integer_type (type_of ty.now))) }
+{
+    match value {
+        Err(kind) => Err(kind),
+        Ok(value) => complemented(integer_type(ty), value),
+    }
+}
+
+/// A value of the first type as one of the second, or its fault.
+pub(crate) fn converted_answer(
+    from: &Ty,
+    to: &Ty,
+    value: Result<Value, FaultKind>,
+) -> Result<Value, FaultKind>
+    ensures { result ≡ e.then_value value (e.assigned_value (type_of from.now) (type_of to.now)) }
+{
+    match value {
+        Err(kind) => Err(kind),
+        Ok(value) => assigned_value(from, to, value),
     }
 }
