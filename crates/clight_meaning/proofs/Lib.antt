@@ -2,3 +2,4 @@ pub mod TreeForms
 pub mod Examples
 pub mod Shifts
 pub mod Holding
+pub mod Agreeing

@@ -24,7 +24,7 @@ use Rattle.clight_meaning.specs.declared.value.Value as w
 use Rattle.clight_meaning.specs.declared.value.Value.TheVariants as v
 use Rattle.clight_meaning.specs.Values.{converted, difference, literal_type}
 use Rattle.clight_meaning.specs.Memory.{Answer, Cell, Memory, Kinds, kinds_of, initial, is_true, with_blocks, unset, left, Frame, State}
-use Rattle.clight_meaning.specs.Expressions.{assigned_value, Position, home_position, variable_position, stored_in, position, value}
+use Rattle.clight_meaning.specs.Expressions.{then_value, assigned_value, Position, home_position, variable_position, stored_in, position, value}
 
 -- ---- what is told
 
@@ -102,9 +102,9 @@ abbrev pub stored_value : CType → Position → Answer → State → Result Sta
 stored_value T at (Err k) st = Err k
 stored_value T at (Ok w) st = stored_in T at w st
 
+-- a value of the type S as one of the type T
 abbrev pub converted_answer : CType → CType → Answer → Answer
-converted_answer S T (Err k) = Err k
-converted_answer S T (Ok w) = assigned_value S T w
+converted_answer S T w = then_value w (assigned_value S T)
 
 -- the place first, then the value, its conversion from the type S to the place's type T, and the access
 abbrev pub assigned_to : CType → Result Position FaultKind → CType → Answer → State → Result State FaultKind

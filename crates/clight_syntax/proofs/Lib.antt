@@ -3,3 +3,4 @@ pub mod Cutting
 pub mod DecimalTexts
 pub mod AnnotatedText
 pub mod Examples
+pub mod TypedRows
