@@ -2,4 +2,5 @@ pub mod Values
 pub mod Memory
 pub mod Expressions
 pub mod Meaning
+pub mod Evaluation
 pub mod Views
