@@ -3,3 +3,4 @@ pub mod Examples
 pub mod Shifts
 pub mod Holding
 pub mod Agreeing
+pub mod Moving
