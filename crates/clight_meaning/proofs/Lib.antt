@@ -4,3 +4,4 @@ pub mod Shifts
 pub mod Holding
 pub mod Agreeing
 pub mod Moving
+pub mod Weights
