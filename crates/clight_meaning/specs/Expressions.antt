@@ -50,8 +50,8 @@ as_pointer (v.Pointer at) = Ok (v.Pointer at)
 
 -- a value of the first type as one of the second
 abbrev pub assigned_value : CType → CType → Value → Answer
-assigned_value (Integer s g) (Integer t h) w = converted_value (record { size = s; signed = g }) (record { size = t; signed = h }) w
 assigned_value S (Pointer target) w = as_pointer w
+assigned_value (Integer s g) (Integer t h) w = converted_value (record { size = s; signed = g }) (record { size = t; signed = h }) w
 assigned_value _ _ w = Err Outside
 
 -- ---- answers, one after the other

@@ -4,7 +4,9 @@ use Rattle.std.specs.Borrow.{Bor}
 use Rattle.cerco_base.specs.declared.events.FaultKind.{FaultKind}
 use Rattle.clight_syntax.specs.Types as s
 use Rattle.clight_syntax.specs.declared.typed.StructType.{StructType}
-use Rattle.clight_syntax.specs.TypedViews.{struct_type_of, variable_of}
+use Rattle.clight_syntax.specs.TypedViews.{struct_type_of, variable_of, assignment_of}
+use Rattle.clight_syntax.specs.TypedTrees as t
+use Rattle.clight_syntax.specs.declared.typed.Assignment.{Assignment}
 use Rattle.clight_syntax.specs.TypedTrees.{Variable'}
 use Rattle.clight_syntax.specs.declared.typed.Variable.{Variable}
 use Rattle.clight_meaning.specs.Memory as m
@@ -41,6 +43,11 @@ variables_held variables = map variable_of variables
 abbrev pub kind_held : Bor Ty → s.CType
 kind_held ty = s.type_of ty.now
 
+-- the type that was found
+abbrev pub type_held : Option (Bor Ty) → s.CType
+type_held None = s.Void
+type_held (Some ty) = kind_held ty
+
 abbrev pub cell_held : Cell → m.Cell
 cell_held c = record { kind = option_map kind_held c.kind; value = c.value }
 
@@ -68,3 +75,11 @@ positions_held (Ok at) = Ok (position_held at)
 abbrev pub Becomes : {S R : Type 0} → Result S FaultKind → S → S → Result R FaultKind → Type 0
 Becomes made old new (Ok r) = made ≡ Ok new
 Becomes made old new (Err k) = (made ≡ Err k) × (new ≡ old)
+
+-- the same where what is held after a fault is of no account
+abbrev pub Makes : {S R : Type 0} → Result S FaultKind → S → Result R FaultKind → Type 0
+Makes made new (Ok r) = made ≡ Ok new
+Makes made new (Err k) = made ≡ Err k
+
+abbrev pub assignments_held : Option Assignment → Option t.Assignment
+assignments_held a = option_map assignment_of a

@@ -2,10 +2,12 @@
 //! event.
 #![tactic(auto)]
 
+mod calls;
 mod integer;
 mod lookup;
 mod memory;
 mod state;
+mod statements;
 pub mod turn;
 pub mod value;
 

@@ -2,6 +2,7 @@
 ghost use Rattle.std.specs.Prelude.{◌≡◌, ℕ, ◌<◌, ◌≤◌, ◌+◌, ◌^◌, ◌++◌, IfOk, OnOk, min, map, vec_len, length, [], Ok, ◌*◌};
 ghost use Rattle.clight_syntax.specs.Types.{type_of, size_of};
 ghost use Rattle.clight_meaning.specs.Memory as m;
+ghost use Rattle.clight_meaning.specs.Meaning.{is_scalar};
 ghost use Rattle.clight_meaning.specs.Views.{integer_held, cell_held, cells_held, memory_held, structs_held, kind_held, Becomes};
 
 use crate::integer::IntegerType;
@@ -275,6 +276,13 @@ fn scaled(count: u64, size: u64) -> u64
     ensures { (n : ℕ) → size ≡ min n (2 ^ 32) → result ≡ min (count * n) (2 ^ 32) }
 {
     count.saturating_mul(size).min(0x1_0000_0000)
+}
+
+/// Whether a type is that of a scalar.
+pub(crate) fn is_scalar(ty: &Ty) -> bool
+    ensures { result ≡ is_scalar (type_of ty.now) }
+{
+    !matches!(ty, Ty::Void | Ty::Array(_, _) | Ty::Struct(_))
 }
 
 fn bytes_of(found: &StructType) -> u64

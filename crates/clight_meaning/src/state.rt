@@ -310,7 +310,7 @@ fn pointer_to(position: Result<Position, FaultKind>) -> Result<Value, FaultKind>
 }
 
 impl<'a> Frame<'a> {
-    fn home_position(&self, home: Home) -> Position
+    pub(crate) fn home_position(&self, home: Home) -> Position
         ensures { position_held result ≡ e.home_position home (frame_held self.now) }
     {
         match home {
@@ -329,10 +329,10 @@ impl<'a> Frame<'a> {
     }
 
     /// The position of the variable with this number.
-    pub(crate) fn variable_position(&self, variables: &[Variable], number: u32) -> Position
+    pub(crate) fn variable_position(&self, variables: &[Variable], number: usize) -> Position
         ensures { position_held result ≡ e.position_in (slice_get (variables_held variables.now) number) (frame_held self.now) }
     {
-        match item_at(variables, number as usize) {
+        match item_at(variables, number) {
             None => Position::Behind(Value::Null),
             Some(variable) => self.home_position(variable.home),
         }
@@ -405,7 +405,7 @@ impl<'a> State<'a> {
     {
         match expression {
             Expr::Variable(_, number, _) => {
-                Ok(self.frame.variable_position(&program.variables, *number))
+                Ok(self.frame.variable_position(&program.variables, *number as usize))
             }
             Expr::Parenthesis(_, _, inner, _) => self.position(program, inner),
             Expr::Prefix(_, operator, _, inner) => match operator {
@@ -442,7 +442,7 @@ impl<'a> State<'a> {
     {
         match expression {
             Expr::Variable(ty, number, _) => {
-                let position = self.frame.variable_position(&program.variables, *number);
+                let position = self.frame.variable_position(&program.variables, *number as usize);
                 self.value_at(ty, Ok(position))
             }
             Expr::Number(_, literal, _) => Ok(Value::Integer(literal.value)),
