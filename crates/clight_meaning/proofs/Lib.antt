@@ -5,3 +5,4 @@ pub mod Holding
 pub mod Agreeing
 pub mod Moving
 pub mod Weights
+pub mod Windows

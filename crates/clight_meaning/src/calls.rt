@@ -6,6 +6,7 @@ ghost use Rattle.clight_meaning.specs.Memory as m;
 ghost use Rattle.clight_meaning.specs.Meaning as n;
 ghost use Rattle.clight_meaning.specs.Views.{Makes, frame_held, memory_held, state_held, structs_held, variables_held};
 
+use crate::lookup::{first_items, items_from};
 use crate::memory::{is_scalar, Memory};
 use crate::state::{type_at, Frame, State};
 use crate::statements::{converted_to, variable_type};
@@ -25,11 +26,11 @@ pub(crate) fn own_variables<'p>(
 ) -> &'p [Variable]
     ensures { variables_held result.now ≡ n.own_variables (program_of program.now) (function_of function.now) }
 {
-    let variables = program.variables.as_slice();
-    let first = (function.first_variable as usize).min(variables.len());
-    let variables = &variables[first..];
-    let count = (function.parameters as usize).saturating_add(function.locals.len());
-    &variables[..count.min(variables.len())]
+    let variables = items_from(&program.variables, function.first_variable as usize);
+    let parameters = first_items(variables, function.parameters as usize);
+    let more = items_from(variables, parameters.len());
+    let locals = first_items(more, function.locals.len());
+    first_items(variables, parameters.len() + locals.len())
 }
 
 impl<'a> State<'a> {
