@@ -3,4 +3,5 @@ pub mod Memory
 pub mod Expressions
 pub mod Meaning
 pub mod Evaluation
+pub mod Missing
 pub mod Views

@@ -2,12 +2,15 @@
 ghost use Rattle.std.specs.Prelude.{◌≡◌, ℕ, ◌+◌, ◌++◌, drop, length, map, take, IfOk, OnOk, MatchResult, Ok};
 ghost use Rattle.clight_syntax.specs.Types.{type_of};
 ghost use Rattle.clight_syntax.specs.TypedViews.{arguments_of, expr_of, function_of, local_of, local_initialiser_of, program_of};
+ghost use Rattle.clight_syntax.specs.TypedTrees.{type_at};
 ghost use Rattle.clight_meaning.specs.Memory as m;
+ghost use Rattle.clight_meaning.specs.Expressions as e;
 ghost use Rattle.clight_meaning.specs.Meaning as n;
+ghost use Rattle.clight_meaning.specs.Missing.{MayMiss, AddsArgument};
 ghost use Rattle.clight_meaning.specs.Views.{Makes, frame_held, memory_held, state_held, structs_held, variables_held};
 
 use crate::lookup::{first_items, items_from};
-use crate::memory::{is_scalar, Memory};
+use crate::memory::{initial, is_scalar, Memory};
 use crate::state::{type_at, Frame, State};
 use crate::statements::{converted_to, variable_type};
 use crate::value::Value;
@@ -33,7 +36,92 @@ pub(crate) fn own_variables<'p>(
     first_items(variables, parameters.len() + locals.len())
 }
 
+/// Why there are no values.
+#[derive(Clone, Copy)]
+pub(crate) enum Missing {
+    Fault(FaultKind),
+    Memory,
+}
+
+/// The first values of the scalars among some variables.
+fn initials(alloc: Global, variables: &[Variable]) -> Result<Vec<Value>, NoMemory>
+    ensures { IfOk result (λ values. values.items ≡ n.initials (variables_held variables.now)) }
+{
+    let mut values = Vec::new(alloc);
+    for variable in variables {
+        if is_scalar(&variable.ty) {
+            values.push(initial(&variable.ty))?;
+        }
+    }
+    Ok(values)
+}
+
 impl<'a> State<'a> {
+    /// The value of an argument, as one of the type of its parameter.
+    fn argument(
+        &self,
+        program: &TypedProgram<Label>,
+        expression: &Expr,
+        parameter: usize,
+    ) -> Result<Value, FaultKind>
+        ensures { result ≡ n.converted_answer (type_at (expr_of expression.now)) (n.variable_type (program_of program.now) parameter) (e.value (program_of program.now) (expr_of expression.now) (state_held self.now)) }
+    {
+        let value = self.value(program, expression);
+        converted_to(
+            type_at(expression),
+            variable_type(&program.variables, parameter),
+            value,
+        )
+    }
+
+    /// Adds the value of the next argument.
+    fn add_argument(
+        &self,
+        program: &TypedProgram<Label>,
+        expression: &Expr,
+        first: u32,
+        values: &mut Vec<Value>,
+    ) -> Result<(), Missing>
+        ensures { MatchResult result (λ _. AddsArgument (n.converted_answer (type_at (expr_of expression.now)) (n.variable_type (program_of program.now) (first + length values.old.items)) (e.value (program_of program.now) (expr_of expression.now) (state_held self.now))) values.old.items values.new.items) (MayMiss (n.converted_answer (type_at (expr_of expression.now)) (n.variable_type (program_of program.now) (first + length values.old.items)) (e.value (program_of program.now) (expr_of expression.now) (state_held self.now)))) }
+    {
+        let Some(parameter) = (first as usize).checked_add(values.len()) else {
+            return Err(Missing::Memory);
+        };
+        match self.argument(program, expression, parameter) {
+            Err(kind) => Err(Missing::Fault(kind)),
+            Ok(value) => {
+                if values.push(value).is_err() {
+                    return Err(Missing::Memory);
+                }
+                Ok(())
+            }
+        }
+    }
+
+    /// The values of the arguments of a call from left to right, each as one of the type of its parameter. The parameters are
+    /// numbered from `first`.
+    pub(crate) fn argument_values(
+        &self,
+        alloc: Global,
+        program: &TypedProgram<Label>,
+        arguments: &Arguments,
+        first: u32,
+    ) -> Result<Vec<Value>, Missing>
+        ensures { MatchResult result (λ values. n.argument_values (program_of program.now) (n.argument_list (arguments_of arguments.now)) first (state_held self.now) ≡ Ok values.items) (MayMiss (n.argument_values (program_of program.now) (n.argument_list (arguments_of arguments.now)) first (state_held self.now))) }
+    {
+        let mut values = Vec::new(alloc);
+        match arguments {
+            Arguments::Nothing => Ok(values),
+            Arguments::Listed(earlier, last) => {
+                for argument in earlier {
+                    self.add_argument(program, &argument.value, first, &mut values)?;
+                }
+                self.add_argument(program, last, first, &mut values)?;
+                Ok(values)
+            }
+        }
+    }
+
     /// The call is over, and its caller goes on with its own frame.
     pub(crate) fn come_back(&mut self, frame: Frame<'a>)
         ensures { state_held self.new ≡ n.returned (frame_held frame.entry) (state_held self.old) }

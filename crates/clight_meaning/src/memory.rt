@@ -278,6 +278,16 @@ fn scaled(count: u64, size: u64) -> u64
     count.saturating_mul(size).min(0x1_0000_0000)
 }
 
+/// The value with which a scalar of this type begins.
+pub(crate) fn initial(ty: &Ty) -> Value
+    ensures { result ≡ m.initial (type_of ty.now) }
+{
+    match ty {
+        Ty::Pointer(_) => Value::Null,
+        _ => Value::Integer(0),
+    }
+}
+
 /// Whether a type is that of a scalar.
 pub(crate) fn is_scalar(ty: &Ty) -> bool
     ensures { result ≡ is_scalar (type_of ty.now) }
