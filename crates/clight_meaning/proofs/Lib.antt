@@ -6,3 +6,4 @@ pub mod Agreeing
 pub mod Moving
 pub mod Weights
 pub mod Windows
+pub mod Lists

@@ -1,6 +1,7 @@
 //! The memory of a run.
-ghost use Rattle.std.specs.Prelude.{◌≡◌, ℕ, ◌<◌, ◌≤◌, ◌+◌, ◌^◌, ◌++◌, IfOk, OnOk, min, map, vec_len, length, [], Ok, ◌*◌};
+ghost use Rattle.std.specs.Prelude.{◌≡◌, IsTrue, ℕ, ◌<◌, ◌≤◌, ◌+◌, ◌^◌, ◌++◌, IfOk, OnOk, min, map, vec_len, length, [], Ok, ◌*◌};
 ghost use Rattle.clight_syntax.specs.Types.{type_of, size_of};
+ghost use Rattle.clight_syntax.specs.TypedViews.{member_of};
 ghost use Rattle.clight_meaning.specs.Memory as m;
 ghost use Rattle.clight_meaning.specs.Meaning.{is_scalar};
 ghost use Rattle.clight_meaning.specs.Views.{integer_held, cell_held, cells_held, memory_held, structs_held, kind_held, Becomes};
@@ -9,7 +10,7 @@ use crate::integer::IntegerType;
 use crate::lookup::item_at;
 use crate::value::{Block, Place, Value};
 use cerco_base::{FaultKind, NoMemory};
-use clight_syntax::typed::StructType;
+use clight_syntax::typed::{MemberType, StructType};
 use clight_syntax::Ty;
 use std::alloc::Global;
 
@@ -386,5 +387,93 @@ fn without_order(block: Result<Block, FaultKind>) -> Result<bool, FaultKind>
     match block {
         Err(kind) => Err(kind),
         Ok(_) => Err(FaultKind::Compare),
+    }
+}
+
+/// Adds the bytes of a type, unset. At most so many structs stand within one another in it.
+#[cycle(bytes_of_types)]
+fn push_cells<'a>(
+    cells: &mut Vec<Cell<'a>>,
+    structs: &'a [StructType],
+    depth: usize,
+    ty: &'a Ty,
+) -> Result<(), NoMemory>
+    ensures { OnOk result (cells_held cells.new.items ≡ cells_held cells.old.items ++ map m.unset (m.kinds_by (m.nested_kinds (structs_held structs.now) depth) (type_of ty.now))) }
+{
+    match ty {
+        Ty::Void => Ok(()),
+        Ty::Array(element, count) => {
+            for _ in 0..*count {
+                push_cells(cells, structs, depth, element)?;
+            }
+            Ok(())
+        }
+        Ty::Struct(number) => match depth.checked_sub(1) {
+            None => Ok(()),
+            Some(less) => match item_at(structs, *number as usize) {
+                None => Ok(()),
+                Some(found) => push_members(cells, structs, less, &found.members),
+            },
+        },
+        _ => push_scalar(cells, ty),
+    }
+}
+
+/// Adds the bytes of the members of a struct.
+#[cycle(bytes_of_types)]
+fn push_members<'a>(
+    cells: &mut Vec<Cell<'a>>,
+    structs: &'a [StructType],
+    depth: usize,
+    members: &'a [MemberType],
+) -> Result<(), NoMemory>
+    ensures { OnOk result (cells_held cells.new.items ≡ cells_held cells.old.items ++ map m.unset (m.kinds_of_members (m.nested_kinds (structs_held structs.now) depth) (map member_of members.now))) }
+{
+    for member in members {
+        push_cells(cells, structs, depth, &member.ty)?;
+    }
+    Ok(())
+}
+
+/// Adds the bytes of a scalar.
+fn push_scalar<'a>(cells: &mut Vec<Cell<'a>>, ty: &'a Ty) -> Result<(), NoMemory>
+    requires { IsTrue (is_scalar (type_of ty.now)) }
+    ensures { (kinds : ℕ → m.Kinds) → OnOk result (cells_held cells.new.items ≡ cells_held cells.old.items ++ map m.unset (m.kinds_by kinds (type_of ty.now))) }
+{
+    cells.push(Cell {
+        kind: Some(ty),
+        value: None,
+    })?;
+    let more = match ty {
+        Ty::I8 | Ty::U8 => 0,
+        Ty::I32 | Ty::U32 => 3,
+        _ => 1,
+    };
+    for _ in 0..more {
+        cells.push(Cell {
+            kind: None,
+            value: None,
+        })?;
+    }
+    Ok(())
+}
+
+impl<'a> Memory<'a> {
+    /// A variable of this type becomes a block of a call, unset.
+    pub(crate) fn begin_block(
+        &mut self,
+        call: u64,
+        structs: &'a [StructType],
+        ty: &'a Ty,
+    ) -> Result<(), NoMemory>
+        ensures { OnOk result (memory_held self.new ≡ m.with_block call (map m.unset (m.kinds_of (structs_held structs.now) (type_of ty.now))) (memory_held self.old)) }
+    {
+        let begin = self.cells.len();
+        push_cells(&mut self.cells, structs, structs.len(), ty)?;
+        let Ok(size) = u32::try_from(self.cells.len() - begin) else {
+            return Err(NoMemory);
+        };
+        self.blocks.push(Block { call, begin, size })?;
+        Ok(())
     }
 }
