@@ -7,3 +7,4 @@ pub mod Moving
 pub mod Weights
 pub mod Windows
 pub mod Lists
+pub mod Nesting

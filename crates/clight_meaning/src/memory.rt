@@ -1,5 +1,5 @@
 //! The memory of a run.
-ghost use Rattle.std.specs.Prelude.{◌≡◌, IsTrue, ℕ, ◌<◌, ◌≤◌, ◌+◌, ◌^◌, ◌++◌, IfOk, OnOk, min, map, vec_len, length, [], Ok, ◌*◌};
+ghost use Rattle.std.specs.Prelude.{◌≡◌, IsTrue, ℕ, ◌<◌, ◌≤◌, ◌+◌, ◌^◌, ◌++◌, IfOk, OnOk, min, map, vec_len, length, [], Ok, ◌*◌, replicate, None};
 ghost use Rattle.clight_syntax.specs.Types.{type_of, size_of};
 ghost use Rattle.clight_syntax.specs.TypedViews.{member_of};
 ghost use Rattle.clight_meaning.specs.Memory as m;
@@ -444,12 +444,20 @@ fn push_scalar<'a>(cells: &mut Vec<Cell<'a>>, ty: &'a Ty) -> Result<(), NoMemory
         kind: Some(ty),
         value: None,
     })?;
-    let more = match ty {
-        Ty::I8 | Ty::U8 => 0,
-        Ty::I32 | Ty::U32 => 3,
-        _ => 1,
-    };
-    for _ in 0..more {
+    match ty {
+        Ty::I8 => push_gaps(cells, 0),
+        Ty::U8 => push_gaps(cells, 0),
+        Ty::I32 => push_gaps(cells, 3),
+        Ty::U32 => push_gaps(cells, 3),
+        _ => push_gaps(cells, 1),
+    }
+}
+
+/// Adds bytes at which no scalar begins.
+fn push_gaps(cells: &mut Vec<Cell<'_>>, count: u32) -> Result<(), NoMemory>
+    ensures { OnOk result (cells_held cells.new.items ≡ cells_held cells.old.items ++ map m.unset (replicate count None)) }
+{
+    for _ in 0..count {
         cells.push(Cell {
             kind: None,
             value: None,
