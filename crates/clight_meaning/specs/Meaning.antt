@@ -222,11 +222,11 @@ abbrev pub homed_in : Home → CType → Option w.Value → State → Result Sta
 homed_in (home.Block b) T (Some x) st = stored_in T (home_position (home.Block b) st.frame) x st
 homed_in _ T x st = Ok st
 
--- the same for each of these variables, the scalars among which have these first values
-abbrev pub homed : List Variable' → List w.Value → State → Result State FaultKind
-homed [] ws st = Ok st
-homed (x ∷ xs) ws st =
-    if is_scalar x.type then then_state (homed_in x.home x.type (slice_get ws 0) st) (homed xs (drop 1 ws)) else homed xs ws st
+-- the same for each of these variables, the scalars among which are numbered from here
+abbrev pub homed : List Variable' → ℕ → State → Result State FaultKind
+homed [] n st = Ok st
+homed (x ∷ xs) n st =
+    if is_scalar x.type then then_state (homed_in x.home x.type (slice_get st.frame.scalars n) st) (homed xs (suc n)) else homed xs n st
 
 abbrev pub initialised_by : {L : Type 0} → TypedProgram L → ℕ → LocalInitialiser → State → Result State FaultKind
 initialised_by p n NoValue st = Ok st
@@ -239,7 +239,7 @@ initialised p (l ∷ ls) n st = then_state (initialised_by p n l.initialiser st)
 
 -- what comes before the statements of a function's body
 abbrev pub prepared : {L : Type 0} → TypedProgram L → Function L → State → Result State FaultKind
-prepared p f st = then_state (homed (own_variables p f) st.frame.scalars st) (initialised p f.locals (f.first_variable + f.parameters))
+prepared p f st = then_state (homed (own_variables p f) 0 st) (initialised p f.locals (f.first_variable + f.parameters))
 
 abbrev pub result_in : {L : Type 0} → Option (Function L) → CType
 result_in None = Void

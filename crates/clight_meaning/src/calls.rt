@@ -1,5 +1,5 @@
 //! How a call begins and ends.
-ghost use Rattle.std.specs.Prelude.{◌≡◌, ℕ, ◌+◌, ◌++◌, drop, length, map, take, IfOk, OnOk, MatchResult, Ok};
+ghost use Rattle.std.specs.Prelude.{◌≡◌, ℕ, ◌+◌, ◌++◌, ◌<◌, ◌^◌, drop, length, map, take, IfOk, OnOk, MatchResult, Ok};
 ghost use Rattle.clight_syntax.specs.Types.{type_of};
 ghost use Rattle.clight_syntax.specs.TypedViews.{arguments_of, expr_of, function_of, local_of, local_initialiser_of, program_of};
 ghost use Rattle.clight_syntax.specs.TypedTrees.{type_at};
@@ -9,7 +9,7 @@ ghost use Rattle.clight_meaning.specs.Meaning as n;
 ghost use Rattle.clight_meaning.specs.Missing.{MayMiss, AddsArgument};
 ghost use Rattle.clight_meaning.specs.Views.{Makes, frame_held, memory_held, state_held, structs_held, variables_held};
 
-use crate::lookup::{first_items, items_from};
+use crate::lookup::{first_items, item_at, items_from};
 use crate::memory::{initial, is_scalar, Memory};
 use crate::state::{type_at, Frame, State};
 use crate::statements::{converted_to, variable_type};
@@ -164,4 +164,101 @@ impl<'a> State<'a> {
             }
         }
     }
+
+    /// Gives the scalars among these variables that live in a block their first values.
+    fn home_all(&mut self, variables: &[Variable]) -> Result<(), FaultKind>
+        ensures { Makes (n.homed (variables_held variables.now) 0 (state_held self.old)) (state_held self.new) result }
+    {
+        let mut number = 0;
+        for variable in variables {
+            if is_scalar(&variable.ty) {
+                let value = item_at(&self.frame.scalars, number).copied();
+                self.home(variable, value)?;
+                number += 1;
+            }
+        }
+        Ok(())
+    }
+
+    /// Runs the initialisers of a function's locals, which are variables from this number on.
+    fn initialise_all(
+        &mut self,
+        program: &TypedProgram<Label>,
+        locals: &[Local],
+        first: usize,
+    ) -> Result<(), FaultKind>
+        requires low { first < 2 ^ 33 }
+        requires few { length locals.now < 2 ^ 63 }
+        ensures { Makes (n.initialised (program_of program.now) (map local_of locals.now) first (state_held self.old)) (state_held self.new) result }
+    {
+        for (i, local) in locals.iter().enumerate() {
+            self.initialise(program, first + i, &local.initialiser)?;
+        }
+        Ok(())
+    }
+
+    /// What comes before the statements of a function's body.
+    pub(crate) fn prepare(
+        &mut self,
+        program: &TypedProgram<Label>,
+        function: &Function<Label>,
+    ) -> Result<(), FaultKind>
+        ensures { Makes (n.prepared (program_of program.now) (function_of function.now) (state_held self.old)) (state_held self.new) result }
+    {
+        self.home_all(own_variables(program, function))?;
+        let first = function.first_variable as usize + function.parameters as usize;
+        self.initialise_all(program, &function.locals, first)
+    }
+
+    /// A call of a function begins with these arguments. The frame of its caller is given back.
+    pub(crate) fn enter(
+        &mut self,
+        alloc: Global,
+        program: &'a TypedProgram<Label>,
+        function: &'a Function<Label>,
+        arguments: Vec<Value>,
+    ) -> Result<Frame<'a>, NoMemory>
+        ensures state { OnOk result (state_held self.new ≡ n.entered (program_of program.now) (function_of function.now) arguments.items (state_held self.old)) }
+        ensures frame { IfOk result (λ frame. frame_held frame ≡ frame_held self.old.frame) }
+    {
+        let variables = own_variables(program, function);
+        let scalars = scalars_of(alloc, variables, arguments)?;
+        let Ok(blocks) = u32::try_from(self.memory.blocks()) else {
+            return Err(NoMemory);
+        };
+        let cells = self.memory.cells();
+        let Some(made) = self.made.checked_add(1) else {
+            return Err(NoMemory);
+        };
+        let Some(depth) = self.frame.depth.checked_add(1) else {
+            return Err(NoMemory);
+        };
+        self.memory
+            .begin_blocks(self.made, &program.structs, variables)?;
+        let frame = Frame {
+            blocks,
+            cells,
+            call: self.made,
+            depth,
+            result: &function.result,
+            scalars,
+        };
+        self.made = made;
+        Ok(mem::replace(&mut self.frame, frame))
+    }
+}
+
+/// The scalars with which a call begins: its arguments, and the first values of the others.
+fn scalars_of(
+    alloc: Global,
+    variables: &[Variable],
+    arguments: Vec<Value>,
+) -> Result<Vec<Value>, NoMemory>
+    ensures { IfOk result (λ values. values.items ≡ arguments.items ++ drop (length arguments.items) (n.initials (variables_held variables.now))) }
+{
+    let firsts = initials(alloc, variables)?;
+    let mut scalars = arguments;
+    let count = scalars.len();
+    scalars.extend_from_slice(items_from(&firsts, count))?;
+    Ok(scalars)
 }

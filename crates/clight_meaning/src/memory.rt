@@ -1,16 +1,16 @@
 //! The memory of a run.
-ghost use Rattle.std.specs.Prelude.{◌≡◌, IsTrue, ℕ, ◌<◌, ◌≤◌, ◌+◌, ◌^◌, ◌++◌, IfOk, OnOk, min, map, vec_len, length, [], Ok, ◌*◌, replicate, None};
+ghost use Rattle.std.specs.Prelude.{◌≡◌, IsTrue, ℕ, List, ◌<◌, ◌≤◌, ◌+◌, ◌^◌, ◌++◌, IfOk, OnOk, min, map, vec_len, length, [], Ok, ◌*◌, replicate, None};
 ghost use Rattle.clight_syntax.specs.Types.{type_of, size_of};
 ghost use Rattle.clight_syntax.specs.TypedViews.{member_of};
 ghost use Rattle.clight_meaning.specs.Memory as m;
-ghost use Rattle.clight_meaning.specs.Meaning.{is_scalar};
-ghost use Rattle.clight_meaning.specs.Views.{integer_held, cell_held, cells_held, memory_held, structs_held, kind_held, Becomes};
+ghost use Rattle.clight_meaning.specs.Meaning.{block_in, is_scalar, own_blocks};
+ghost use Rattle.clight_meaning.specs.Views.{integer_held, cell_held, cells_held, memory_held, structs_held, variables_held, kind_held, Becomes};
 
 use crate::integer::IntegerType;
 use crate::lookup::item_at;
 use crate::value::{Block, Place, Value};
 use cerco_base::{FaultKind, NoMemory};
-use clight_syntax::typed::{MemberType, StructType};
+use clight_syntax::typed::{Home, MemberType, StructType, Variable};
 use clight_syntax::Ty;
 use std::alloc::Global;
 
@@ -483,5 +483,35 @@ impl<'a> Memory<'a> {
         };
         self.blocks.push(Block { call, begin, size })?;
         Ok(())
+    }
+
+    /// Those of these variables of a call that live in a block get theirs, unset.
+    pub(crate) fn begin_blocks(
+        &mut self,
+        call: u64,
+        structs: &'a [StructType],
+        variables: &'a [Variable],
+    ) -> Result<(), NoMemory>
+        ensures { OnOk result (memory_held self.new ≡ m.with_blocks call (own_blocks (structs_held structs.now) (variables_held variables.now)) (memory_held self.old)) }
+    {
+        for variable in variables {
+            self.begin_own(call, structs, variable)?;
+        }
+        Ok(())
+    }
+
+    /// A variable of a call gets its block, if it lives in one.
+    fn begin_own(
+        &mut self,
+        call: u64,
+        structs: &'a [StructType],
+        variable: &'a Variable,
+    ) -> Result<(), NoMemory>
+        ensures { (more : List (List m.Cell)) → OnOk result (m.with_blocks call more (memory_held self.new) ≡ m.with_blocks call (block_in variable.now.home (map m.unset (m.kinds_of (structs_held structs.now) (type_of variable.now.ty))) more) (memory_held self.old)) }
+    {
+        match variable.home {
+            Home::Block(_) => self.begin_block(call, structs, &variable.ty),
+            _ => Ok(()),
+        }
     }
 }
