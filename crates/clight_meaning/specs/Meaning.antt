@@ -356,12 +356,15 @@ abbrev pub given : CType → SignedNumber → w.Value
 given (Integer size signed) n = v.Integer (converted (literal_type n.number) (record { size = size; signed = signed }) (signed_bits n))
 given T n = initial T
 
--- the cells of a global: its numbers are the first values of its scalars in order, and the others are 0 or null
-abbrev pub filled : Kinds → List SignedNumber → List Cell
-filled [] ns = []
-filled (None ∷ kinds) ns = record { kind = None; value = None } ∷ filled kinds ns
-filled (Some T ∷ kinds) [] = record { kind = Some T; value = Some (initial T) } ∷ filled kinds []
-filled (Some T ∷ kinds) (n ∷ ns) = record { kind = Some T; value = Some (given T n) } ∷ filled kinds ns
+abbrev pub first_value : CType → Option SignedNumber → w.Value
+first_value T None = initial T
+first_value T (Some n) = given T n
+
+-- the cells of a global: its numbers, from this one on, are the first values of its scalars in order, and the others are 0 or null
+abbrev pub filled : Kinds → List SignedNumber → ℕ → List Cell
+filled [] ns i = []
+filled (None ∷ kinds) ns i = record { kind = None; value = None } ∷ filled kinds ns i
+filled (Some T ∷ kinds) ns i = record { kind = Some T; value = Some (first_value T (slice_get ns i)) } ∷ filled kinds ns (suc i)
 
 abbrev pub numbers_of : Initialiser → List SignedNumber
 numbers_of NoInitialiser = []
@@ -369,7 +372,7 @@ numbers_of (Single equals n) = n ∷ []
 numbers_of (Listed equals left earlier last right) = map (λ (n : EarlierNumber). n.number) earlier ++ last ∷ []
 
 abbrev pub global_cells : {L : Type 0} → TypedProgram L → Global → ℕ → List Cell
-global_cells p g n = filled (kinds_of p.structs (variable_type p n)) (numbers_of g.initialiser)
+global_cells p g n = filled (kinds_of p.structs (variable_type p n)) (numbers_of g.initialiser) 0
 
 -- the blocks of the globals, in the order of the text
 abbrev pub global_blocks : {L : Type 0} → TypedProgram L → List Item → List (List Cell)

@@ -54,6 +54,10 @@ cell_held c = record { kind = option_map kind_held c.kind; value = c.value }
 abbrev pub cells_held : List Cell → List m.Cell
 cells_held cells = map cell_held cells
 
+-- the types of the scalars that begin in some cells
+abbrev pub kinds_held : List Cell → m.Kinds
+kinds_held cells = map (λ (c : Cell). option_map kind_held c.kind) cells
+
 abbrev pub memory_held : Memory → m.Memory
 memory_held memory = record { cells = cells_held memory.cells.items; blocks = memory.blocks.items }
 

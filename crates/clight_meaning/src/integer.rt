@@ -6,6 +6,7 @@ ghost use Rattle.clight_meaning.specs.Views.{size_held, integer_held};
 use crate::value::Value;
 use cerco_base::FaultKind;
 use clight_syntax::tree::BinaryOperator;
+use clight_syntax::{Literal, Radix};
 
 /// The size of an integer.
 #[derive(Clone, Copy)]
@@ -290,5 +291,36 @@ pub(crate) fn combined(
             let common = left.common(right);
             common.calculated(operator, left.converted(common, x), right.converted(common, y))
         }
+    }
+}
+
+/// The type of an integer constant.
+pub(crate) fn literal_type(literal: Literal) -> IntegerType
+    ensures { integer_held result ≡ v.literal_type literal }
+{
+    let small = literal.value < 0x8000;
+    let word = literal.value < 0x1_0000;
+    if literal.unsigned {
+        let size = if word { Size::Two } else { Size::Four };
+        return IntegerType {
+            size,
+            signed: false,
+        };
+    }
+    if small {
+        return IntegerType {
+            size: Size::Two,
+            signed: true,
+        };
+    }
+    match literal.radix {
+        Radix::Decimal => IntegerType {
+            size: Size::Four,
+            signed: true,
+        },
+        _ => IntegerType {
+            size: if word { Size::Two } else { Size::Four },
+            signed: !word,
+        },
     }
 }

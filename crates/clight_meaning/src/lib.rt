@@ -3,6 +3,7 @@
 #![tactic(auto)]
 
 mod calls;
+mod globals;
 mod integer;
 mod lookup;
 mod memory;

@@ -24,8 +24,8 @@ pub(crate) struct Cell<'a> {
 /// The live blocks, the oldest first.
 #[derive(Drop)]
 pub(crate) struct Memory<'a> {
-    cells: Vec<Cell<'a>>,
-    blocks: Vec<Block>,
+    pub(crate) cells: Vec<Cell<'a>>,
+    pub(crate) blocks: Vec<Block>,
 }
 
 /// Whether two types are the same.
@@ -392,7 +392,7 @@ fn without_order(block: Result<Block, FaultKind>) -> Result<bool, FaultKind>
 
 /// Adds the bytes of a type, unset. At most so many structs stand within one another in it.
 #[cycle(bytes_of_types)]
-fn push_cells<'a>(
+pub(crate) fn push_cells<'a>(
     cells: &mut Vec<Cell<'a>>,
     structs: &'a [StructType],
     depth: usize,

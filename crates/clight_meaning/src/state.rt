@@ -53,7 +53,7 @@ pub(crate) enum Position {
 }
 
 /// The integer type that a type is, if it is one.
-fn integer_type(ty: &Ty) -> Option<IntegerType>
+pub(crate) fn integer_type(ty: &Ty) -> Option<IntegerType>
     ensures { integers_held result ≡ e.integer_type (type_of ty.now) }
 {
     let (size, signed) = match ty {
