@@ -1,10 +1,11 @@
 pub mod TreeForms
 pub mod Examples
 pub mod Shifts
-pub mod Holding
+pub mod HeldCells
 pub mod Agreeing
 pub mod Moving
 pub mod Weights
 pub mod Windows
 pub mod Lists
 pub mod Nesting
+pub mod Filling

@@ -14,7 +14,7 @@ use Rattle.clight_meaning.specs.declared.value.Value.{Value}
 use Rattle.clight_meaning.specs.declared.value.Value.TheVariants as v
 use Rattle.clight_meaning.specs.Memory.{Answer, State}
 use Rattle.clight_meaning.specs.Meaning.{Rest, only, says, passes, again, with_value, with_values, with_state, with_truth, with_byte, test, test_if_any, Calling, returned, taken, result_type, Goes, loop_goes, next_of_for, run, run_all, body_goes, call_of, call, calls}
-use Rattle.clight_meaning.specs.Evaluation.{Way, ByBreak, ByContinue, ByReturn, Waiting, Chooser, Negation, AndThen, OrElse, Work, Run, All, Turn', Check, Outcome', Wait, Pass, Begin, Caller, Take, Leave, Faulty, run_list, Onward, loop_of, next_turns, onward, standing, rest_of, Move, Silent, Says, Fails, Ends, quietly, listed, after_read, written, called_of, called, for_turned, for_begun, given_back, ran, turned, broken, chosen, decided, comes_out, outcome_of, checked, left_loop, left_by, begun, stepped}
+use Rattle.clight_meaning.specs.Evaluation.{Way, ByBreak, ByContinue, ByReturn, Waiting, Chooser, Negation, AndThen, OrElse, Work, Run, All, Turn', Check, Outcome', Wait, Pass, Caller, Take, Leave, Faulty, run_list, Onward, loop_of, next_turns, onward, standing, rest_of, Move, Silent, Says, SaysAndFails, Fails, Ends, quietly, listed, after_read, written, called_of, called, for_turned, for_begun, given_back, ran, turned, broken, chosen, decided, comes_out, outcome_of, checked, left_loop, left_by, begun, stepped}
 use Rattle.clight_meaning.proofs.Agreeing.{calls_unfold, while_turn, do_turn, for_turn, while_unfolds, do_unfolds, for_unfolds}
 
 -- what is seen of the move comes before the rest from there on
@@ -23,6 +23,9 @@ Moves p (Silent ws st) before = before ≡ rest_of p ws st
 Moves p (Says (event.Label l) ws st) before = before ≡ passes l (rest_of p ws st)
 Moves p (Says (event.Read port byte) ws st) before = before ≡ says (event.Read port byte) (rest_of p ws st)
 Moves p (Says (event.Write port byte) ws st) before = before ≡ says (event.Write port byte) (rest_of p ws st)
+Moves p (SaysAndFails (event.Label l) kind) before = before ≡ passes l (only (Faults [] kind))
+Moves p (SaysAndFails (event.Read port byte) kind) before = before ≡ says (event.Read port byte) (only (Faults [] kind))
+Moves p (SaysAndFails (event.Write port byte) kind) before = before ≡ says (event.Write port byte) (only (Faults [] kind))
 Moves p (Fails kind) before = before ≡ only (Faults [] kind)
 Moves p Ends before = before ≡ only (Stops [] Ended)
 
@@ -42,9 +45,9 @@ module _ (p : TypedProgram Label) (ws : List Work) where
   moves_quietly (Err f) = refl
   moves_quietly (Ok st) = refl
 
-  moves_read : (byte : ℕ) (st : State) (r : Result State FaultKind) → Moves p (after_read byte ws st r) (says (event.Read P1 byte) (with_state r k.next))
-  moves_read byte st (Err f) = refl
-  moves_read byte st (Ok new) = refl
+  moves_read : (byte : ℕ) (r : Result State FaultKind) → Moves p (after_read byte ws r) (says (event.Read P1 byte) (with_state r k.next))
+  moves_read byte (Err f) = refl
+  moves_read byte (Ok new) = refl
 
   moves_written : (st : State) (a : Answer) → Moves p (written ws st a) (with_byte a (λ b. says (event.Write P1 b) (k.next st)))
   moves_written st (Err f) = refl
@@ -61,9 +64,14 @@ module _ (p : TypedProgram Label) (ws : List Work) where
     return = λ x st'. passes back (with_state (taken p c.target (result_type p c.function) x (returned st.frame st')) k.next);
   }
 
+  -- the locals of a function, and its body
+  moves_begun : (f : Function Label) (vs : List Work) (r : Result State FaultKind) → Moves p (begun f vs r) (passes f.label (with_state r (run_all p (calls p) f.body (standing p vs).goes)))
+  moves_begun f vs (Err x) = refl
+  moves_begun f vs (Ok st) = ap (λ (g : State → Rest). passes f.label (g st)) (run_listed p f.body [] (standing p vs).goes)
+
   moves_called_of : (c : t.Call) (back : Label) (st : State) (xs : List Value) (o : Option (Function Label)) → Moves p (called_of p c back ws st xs o) (call_of p o (calls p) (the_call c back st xs))
   moves_called_of c back st xs None = refl
-  moves_called_of c back st xs (Some f) = refl
+  moves_called_of c back st xs (Some f) = moves_begun f _ _
 
   -- the same of an equal rest
   pub moves_as : (m : Move) (before next : Rest) → next ≡ before → Moves p m before → Moves p m next
@@ -71,6 +79,9 @@ module _ (p : TypedProgram Label) (ws : List Work) where
   moves_as (Says (event.Label l) vs st) before next e h = e ∙ h
   moves_as (Says (event.Read port byte) vs st) before next e h = e ∙ h
   moves_as (Says (event.Write port byte) vs st) before next e h = e ∙ h
+  moves_as (SaysAndFails (event.Label l) kind) before next e h = e ∙ h
+  moves_as (SaysAndFails (event.Read port byte) kind) before next e h = e ∙ h
+  moves_as (SaysAndFails (event.Write port byte) kind) before next e h = e ∙ h
   moves_as (Fails kind) before next e h = e ∙ h
   moves_as Ends before next e h = e ∙ h
 
@@ -88,10 +99,6 @@ module _ (p : TypedProgram Label) (ws : List Work) where
   moves_outcome st (Err f) = refl
   moves_outcome st (Ok true) = refl
   moves_outcome st (Ok false) = refl
-
-  moves_begun : (f : Function Label) (r : Result State FaultKind) → Moves p (begun f ws r) (with_state r (run_all p (calls p) f.body k))
-  moves_begun f (Err x) = refl
-  moves_begun f (Ok st) = ap (λ (g : State → Rest). g st) (run_listed p f.body [] k)
 
   -- ---- loops
 
@@ -118,7 +125,7 @@ module _ (p : TypedProgram Label) (ws : List Work) where
   moves_ran (Empty a) st = refl
   moves_ran (Block l body r) st = ap (λ (g : State → Rest). g st) (run_listed p body [] k)
   moves_ran (Assign a q) st = moves_quietly _
-  moves_ran (ReadPort x q port a) st = moves_read _ _ _
+  moves_ran (ReadPort x q port a) st = moves_read _ _
   moves_ran (WritePort port q e a) st = moves_written st _
   moves_ran (CallOf c a back) st = moves_called c back st _
   moves_ran (If c one arm other) st = refl
@@ -209,7 +216,6 @@ moves_step p (Outcome' b ∷ []) st = refl
 moves_step p (Outcome' b ∷ w ∷ ws) st = moves_comes_out p ws b w st
 moves_step p (Wait w ∷ ws) st = refl
 moves_step p (Pass l ∷ ws) st = refl
-moves_step p (Begin f ∷ ws) st = moves_begun p ws f _
 moves_step p (Caller target R back frame ∷ ws) st = refl
 moves_step p (Take target R x ∷ ws) st = moves_quietly p ws _
 moves_step p (Leave ByBreak ∷ []) st = refl

@@ -8,7 +8,7 @@ use Rattle.clight_syntax.specs.TypedTrees.{Cond, Truth, InParentheses, Not, Both
 use Rattle.clight_meaning.specs.declared.value.Value.{Value}
 use Rattle.clight_meaning.specs.declared.value.Value.TheVariants as v
 use Rattle.clight_meaning.specs.Memory.{Answer, State}
-use Rattle.clight_meaning.specs.Evaluation.{Way, ByBreak, ByContinue, ByReturn, Waiting, Chooser, Negation, AndThen, OrElse, Work, Run, All, Turn', Check, Outcome', Wait, Pass, Begin, Caller, Take, Leave, Faulty, Move, Silent, Says, Fails, Ends, quietly, listed, after_read, written, called_of, called, for_turned, for_begun, given_back, ran, turned, broken, chosen, decided, comes_out, outcome_of, checked, left_loop, left_by, begun, stepped}
+use Rattle.clight_meaning.specs.Evaluation.{Way, ByBreak, ByContinue, ByReturn, Waiting, Chooser, Negation, AndThen, OrElse, Work, Run, All, Turn', Check, Outcome', Wait, Pass, Caller, Take, Leave, Faulty, Move, Silent, Says, SaysAndFails, Fails, Ends, quietly, listed, after_read, written, called_of, called, for_turned, for_begun, given_back, ran, turned, broken, chosen, decided, comes_out, outcome_of, checked, left_loop, left_by, begun, stepped}
 
 abbrev cond_nodes : Cond Label → ℕ
 cond_nodes (Truth e) = 2
@@ -54,7 +54,6 @@ weight (Run s) = nodes s
 weight (All ss) = list_nodes ss + 1
 weight (Turn' s) = turn_nodes s
 weight (Check c) = cond_nodes c
-weight (Begin f) = all_nodes f.body + 2
 weight _ = 1
 
 abbrev pub total_weight : List Work → ℕ
@@ -65,12 +64,14 @@ total_weight (w ∷ ws) = weight w + total_weight ws
 abbrev pub Lessens : Move → ℕ → Type 0
 Lessens (Silent ws st) m = total_weight ws < m
 Lessens (Says e ws st) m = Unit {0}
+Lessens (SaysAndFails e kind) m = Unit {0}
 Lessens (Fails kind) m = Unit {0}
 Lessens Ends m = Unit {0}
 
 lessens_more : (move : Move) (m n : ℕ) → m ≤ n → Lessens move m → Lessens move n
 lessens_more (Silent ws st) m n le h = omega arith
 lessens_more (Says e ws st) m n le h = tt
+lessens_more (SaysAndFails e kind) m n le h = tt
 lessens_more (Fails kind) m n le h = tt
 lessens_more Ends m n le h = tt
 
@@ -104,7 +105,6 @@ weight_some (Run s) = nodes_some s
 weight_some (All ss) = omega arith
 weight_some (Turn' s) = turn_some s
 weight_some (Check c) = cond_some c
-weight_some (Begin f) = omega arith
 weight_some _ = lit< tt
 
 listed_nodes : (ss : Stmts Label) (later : List (Stmt Label)) → list_nodes (listed ss later) ≡ all_nodes ss + list_nodes later
@@ -116,9 +116,9 @@ module _ (p : TypedProgram Label) (ws : List Work) where
   lessens_quietly (Err f) m lt = tt
   lessens_quietly (Ok st) m lt = lt
 
-  lessens_read : (byte : ℕ) (st : State) (r : Result State FaultKind) (m : ℕ) → Lessens (after_read byte ws st r) m
-  lessens_read byte st (Err f) m = tt
-  lessens_read byte st (Ok new) m = tt
+  lessens_read : (byte : ℕ) (r : Result State FaultKind) (m : ℕ) → Lessens (after_read byte ws r) m
+  lessens_read byte (Err f) m = tt
+  lessens_read byte (Ok new) m = tt
 
   lessens_written : (st : State) (a : Answer) (m : ℕ) → Lessens (written ws st a) m
   lessens_written st (Err f) m = tt
@@ -126,9 +126,13 @@ module _ (p : TypedProgram Label) (ws : List Work) where
   lessens_written st (Ok v.Null) m = tt
   lessens_written st (Ok (v.Pointer at)) m = tt
 
+  lessens_begun : (f : Function Label) (vs : List Work) (r : Result State FaultKind) (m : ℕ) → Lessens (begun f vs r) m
+  lessens_begun f vs (Err x) m = tt
+  lessens_begun f vs (Ok st) m = tt
+
   lessens_called_of : (c : t.Call) (back : Label) (st : State) (xs : List Value) (o : Option (Function Label)) (m : ℕ) → Lessens (called_of p c back ws st xs o) m
   lessens_called_of c back st xs None m = tt
-  lessens_called_of c back st xs (Some f) m = tt
+  lessens_called_of c back st xs (Some f) m = lessens_begun f _ _ m
 
   lessens_called : (c : t.Call) (back : Label) (st : State) (r : Result (List Value) FaultKind) (m : ℕ) → Lessens (called p c back ws st r) m
   lessens_called c back st (Err f) m = tt
@@ -142,10 +146,6 @@ module _ (p : TypedProgram Label) (ws : List Work) where
   lessens_outcome st (Err f) m lt = tt
   lessens_outcome st (Ok b) m lt = omega arith
 
-  lessens_begun : (f : Function Label) (r : Result State FaultKind) (m : ℕ) → total_weight ws + all_nodes f.body + 1 < m → Lessens (begun f ws r) m
-  lessens_begun f (Err x) m lt = tt
-  lessens_begun f (Ok st) m lt = let h = listed_nodes f.body [] in omega arith
-
   lessens_for_turned : (c : Option (Cond Label)) (l : Label) (body s : Stmt Label) (st : State) (m : ℕ) → total_weight ws + cond_nodes_of c + 1 < m → Lessens (for_turned c l body s ws st) m
   lessens_for_turned None l body s st m lt = tt
   lessens_for_turned (Some c) l body s st m lt = omega arith
@@ -158,7 +158,7 @@ module _ (p : TypedProgram Label) (ws : List Work) where
   lessens_ran (Empty a) st = omega arith
   lessens_ran (Block l body r) st = let h = listed_nodes body [] in omega arith
   lessens_ran (Assign a q) st = lessens_quietly _ _ (omega arith)
-  lessens_ran (ReadPort x q port a) st = lessens_read _ _ _ _
+  lessens_ran (ReadPort x q port a) st = lessens_read _ _ _
   lessens_ran (WritePort port q e a) st = lessens_written st _ _
   lessens_ran (CallOf c a back) st = lessens_called c back st _ _
   lessens_ran (If c one arm other) st = omega arith
@@ -234,7 +234,6 @@ lessens_step p (Outcome' b ∷ []) st = tt
 lessens_step p (Outcome' b ∷ w ∷ ws) st = lessens_comes_out p ws b w st
 lessens_step p (Wait w ∷ ws) st = omega arith
 lessens_step p (Pass l ∷ ws) st = tt
-lessens_step p (Begin f ∷ ws) st = lessens_begun p ws f _ _ (omega arith)
 lessens_step p (Caller target R back frame ∷ ws) st = tt
 lessens_step p (Take target R x ∷ ws) st = lessens_quietly p ws _ _ (omega arith)
 lessens_step p (Leave way ∷ []) st = tt

@@ -48,8 +48,6 @@ pub data Work : Type 0 where
   Wait : (w : Waiting) → Work
   -- a label that is due
   Pass : (l : Label) → Work
-  -- the locals and the body of a function whose call was entered
-  Begin : (f : Function Label) → Work
   -- the caller, with the target, the type of the result, the label behind the call, and its frame
   Caller : (target : Option ResultTarget) (result : CType) (back : Label) (frame : Frame) → Work
   -- a result that the running call takes
@@ -125,7 +123,6 @@ onward p (Check c) k = then_next (λ st. test p c st (k.outcome true st) (k.outc
 onward p (Outcome' b) k = then_next (k.outcome b) k
 onward p (Wait w) k = record { goes = k.goes; outcome = awaited p w k }
 onward p (Pass l) k = then_next (λ st. passes l (k.goes.next st)) k
-onward p (Begin f) k = then_next (λ st. with_state (prepared p f st) (run_all p (calls p) f.body k.goes)) k
 onward p (Caller target R back frame) k = record {
   goes = body_goes (λ x st. passes back (with_state (taken p target R x (returned frame st)) k.goes.next));
   outcome = unasked;
@@ -148,6 +145,8 @@ rest_of p ws st = (standing p ws).goes.next st
 pub data Move : Type 0 where
   Silent : (ws : List Work) (st : State) → Move
   Says : (e : Event) (ws : List Work) (st : State) → Move
+  -- an event, and then a fault
+  SaysAndFails : (e : Event) (kind : FaultKind) → Move
   Fails : (kind : FaultKind) → Move
   Ends : Move
 
@@ -159,9 +158,9 @@ abbrev pub listed : Stmts Label → List (Stmt Label) → List (Stmt Label)
 listed NoStmts later = later
 listed (Then earlier last) later = listed earlier (last ∷ later)
 
-abbrev pub after_read : ℕ → List Work → State → Result State FaultKind → Move
-after_read byte ws st (Err k) = Says (event.Read P1 byte) (Faulty k ∷ ws) st
-after_read byte ws st (Ok new) = Says (event.Read P1 byte) ws new
+abbrev pub after_read : ℕ → List Work → Result State FaultKind → Move
+after_read byte ws (Err k) = SaysAndFails (event.Read P1 byte) k
+after_read byte ws (Ok new) = Says (event.Read P1 byte) ws new
 
 abbrev pub written : List Work → State → Answer → Move
 written ws st (Err k) = Fails k
@@ -169,10 +168,15 @@ written ws st (Ok (v.Integer n)) = Says (event.Write P1 n) ws st
 written ws st (Ok v.Null) = Fails Outside
 written ws st (Ok (v.Pointer at)) = Fails Outside
 
+-- the locals of a function, whose call was entered, come before its body
+abbrev pub begun : Function Label → List Work → Result State FaultKind → Move
+begun f ws (Err k) = SaysAndFails (event.Label f.label) k
+begun f ws (Ok st) = Says (event.Label f.label) (All (listed f.body []) ∷ ws) st
+
 abbrev pub called_of : TypedProgram Label → t.Call → Label → List Work → State → List Value → Option (Function Label) → Move
 called_of p c back ws st xs None = Ends
 called_of p c back ws st xs (Some f) =
-    Says (event.Label f.label) (Begin f ∷ Caller c.target (result_type p c.function) back st.frame ∷ ws) (entered p f xs st)
+    begun f (Caller c.target (result_type p c.function) back st.frame ∷ ws) (prepared p f (entered p f xs st))
 
 abbrev pub called : TypedProgram Label → t.Call → Label → List Work → State → Result (List Value) FaultKind → Move
 called p c back ws st (Err k) = Fails k
@@ -197,7 +201,7 @@ ran p (Empty a) ws st = Silent ws st
 ran p (Block l body r) ws st = Silent (All (listed body []) ∷ ws) st
 ran p (Assign a q) ws st = quietly ws (assigned p a st)
 ran p (ReadPort x q port a) ws st =
-    after_read (first_of st.script) ws (after_reading st)
+    after_read (first_of st.script) ws
     (assigned_to (type_at x) (position p x (after_reading st)) unsigned_char (Ok (v.Integer (first_of st.script))) (after_reading st))
 ran p (WritePort port q e a) ws st = written ws st (converted_answer (type_at e) unsigned_char (value p e st))
 ran p (CallOf c a back) ws st = called p c back ws st (argument_values p (argument_list c.arguments) (first_parameter p c.function) st)
@@ -277,10 +281,6 @@ left_by p way (Turn' s) ws st = left_loop p way s ws st
 left_by p way (Caller target R back frame) ws st = Says (event.Label back) (Take target R (result_of way st) ∷ ws) (returned frame st)
 left_by p way w ws st = Silent (Leave way ∷ ws) st
 
-abbrev pub begun : Function Label → List Work → Result State FaultKind → Move
-begun f ws (Err k) = Fails k
-begun f ws (Ok st) = Silent (All (listed f.body []) ∷ ws) st
-
 abbrev pub stepped : TypedProgram Label → List Work → State → Move
 stepped p [] st = Ends
 stepped p (Run s ∷ ws) st = ran p s ws st
@@ -292,7 +292,6 @@ stepped p (Outcome' b ∷ []) st = Ends
 stepped p (Outcome' b ∷ w ∷ ws) st = comes_out b w ws st
 stepped p (Wait w ∷ ws) st = Silent ws st
 stepped p (Pass l ∷ ws) st = Says (event.Label l) ws st
-stepped p (Begin f ∷ ws) st = begun f ws (prepared p f st)
 stepped p (Caller target R back frame ∷ ws) st = Says (event.Label back) (Take target R (initial st.frame.result) ∷ ws) (returned frame st)
 stepped p (Take target R x ∷ ws) st = quietly ws (taken p target R x st)
 stepped p (Leave way ∷ []) st = Ends

@@ -1,5 +1,5 @@
 use Rattle.std.proofs.Common.{arith}
-use Rattle.clight_meaning.proofs.Holding.{size_at}
+use Rattle.clight_meaning.proofs.HeldCells.{size_at}
 use Rattle.clight_meaning.proofs.memory.+size_of.Goals as goal
 
 pub returns-in-Some : goal.returns-in-Some

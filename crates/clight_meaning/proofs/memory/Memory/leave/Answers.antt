@@ -1,6 +1,6 @@
 use Rattle.std.proofs.Common.{ap, sym, ◌∙◌}
 use Rattle.clight_meaning.specs.Views.{cells_held}
-use Rattle.clight_meaning.proofs.Holding.{left_is}
+use Rattle.clight_meaning.proofs.HeldCells.{left_is}
 use Rattle.clight_meaning.proofs.memory.Memory.leave.Goals as goal
 
 pub returns : goal.returns

@@ -1,6 +1,6 @@
 use Rattle.std.proofs.Common.{arith}
 use Rattle.clight_syntax.specs.Types.{type_of}
-use Rattle.clight_meaning.proofs.Holding.{stored_is}
+use Rattle.clight_meaning.proofs.HeldCells.{stored_is}
 use Rattle.clight_meaning.proofs.memory.Memory.store.Goals as goal
 
 pub returns-in-Ok : goal.returns-in-Ok
