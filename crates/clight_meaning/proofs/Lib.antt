@@ -9,3 +9,4 @@ pub mod Windows
 pub mod Lists
 pub mod Nesting
 pub mod Filling
+pub mod Stacks

@@ -5,3 +5,4 @@ pub mod Meaning
 pub mod Evaluation
 pub mod Missing
 pub mod Views
+pub mod Holding

@@ -7,6 +7,7 @@ mod globals;
 mod integer;
 mod lookup;
 mod memory;
+mod running;
 mod state;
 mod statements;
 pub mod turn;
