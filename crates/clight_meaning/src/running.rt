@@ -1,6 +1,9 @@
 //! A run, step by step, with what is left to do as a list of work.
-ghost use Rattle.std.specs.Prelude.{◌≡◌, ℕ, ◌∷◌, IfOk, MatchOption, OnOk, Result};
-ghost use Rattle.clight_syntax.specs.TypedViews.{cond_of, for_head_of, program_of, stmt_of};
+ghost use Rattle.std.specs.Prelude.{◌≡◌, ℕ, ◌∷◌, IfOk, MatchOption, Ok, OnOk, Result};
+ghost use Rattle.clight_syntax.specs.TypedTrees.{type_at};
+ghost use Rattle.clight_syntax.specs.TypedViews.{assignment_of, cond_of, expr_of, for_head_of, program_of, stmt_of};
+ghost use Rattle.clight_meaning.specs.Expressions as x;
+ghost use Rattle.clight_meaning.specs.Meaning as e;
 ghost use Rattle.clight_meaning.specs.Evaluation as n;
 ghost use Rattle.clight_meaning.specs.Memory.{State as HeldState};
 ghost use Rattle.clight_meaning.specs.Holding.{Does, Enters, Pops, Pushes, work_held, works_held, way_held};
@@ -139,5 +142,92 @@ impl<'a> Running<'a> {
         self.push(Work::Statement(Task::Turn, s))?;
         self.push(Work::Statement(Task::Run, body))?;
         Ok(())
+    }
+}
+
+impl<'a> Running<'a> {
+    /// Runs an assignment.
+    fn assign(&mut self, assignment: &'a Assignment) -> Result<Option<Turn>, NoMemory>
+        ensures { IfOk result (λ t. Does (n.quietly (works_held self.old.work.items) (e.assigned (program_of self.old.program.now) (assignment_of assignment.now) (state_held self.old.state))) t self.old self.new) }
+    {
+        match self.state.assign(self.program, assignment) {
+            Err(kind) => self.fault(kind),
+            Ok(()) => Ok(None),
+        }
+    }
+
+    /// Reads the port into a place.
+    fn read(&mut self, target: &'a Expr) -> Result<Option<Turn>, NoMemory>
+        ensures { IfOk result (λ t. Does (n.after_read (e.first_of (state_held self.old.state).script) (works_held self.old.work.items) (e.assigned_to (type_at (expr_of target.now)) (x.position (program_of self.old.program.now) (expr_of target.now) (e.after_reading (state_held self.old.state))) e.unsigned_char (Ok (Value.Integer (e.first_of (state_held self.old.state).script))) (e.after_reading (state_held self.old.state)))) t self.old self.new) }
+    {
+        let byte = self.state.read();
+        let position = self.state.position(self.program, target);
+        let from = Ty::U8;
+        let value = Ok(Value::Integer(u32::from(byte)));
+        let event = Some(Turn::Event(Event::Read(Port::P1, byte)));
+        match self.state.assign_to(type_at(target), position, &from, value) {
+            Err(kind) => {
+                self.push(Work::Faulty(kind))?;
+                Ok(event)
+            }
+            Ok(()) => Ok(event),
+        }
+    }
+
+    /// Gives a result back.
+    fn give_back(&mut self, expression: &'a Expr) -> Result<Option<Turn>, NoMemory>
+        ensures { IfOk result (λ t. Does (n.given_back (works_held self.old.work.items) (state_held self.old.state) (e.converted_answer (type_at (expr_of expression.now)) (state_held self.old.state).frame.result (x.value (program_of self.old.program.now) (expr_of expression.now) (state_held self.old.state)))) t self.old self.new) }
+    {
+        let value = self.state.value(self.program, expression);
+        match converted_answer(type_at(expression), self.state.frame.result, value) {
+            Err(kind) => self.fault(kind),
+            Ok(value) => {
+                self.push(Work::Leave(Way::Return(value)))?;
+                Ok(None)
+            }
+        }
+    }
+
+    /// Checks a condition.
+    fn check(&mut self, condition: &'a Cond<Label>) -> Result<Option<Turn>, NoMemory>
+        ensures { IfOk result (λ t. Does (n.checked (program_of self.old.program.now) (cond_of condition.now) (works_held self.old.work.items) (state_held self.old.state)) t self.old self.new) }
+    {
+        match condition {
+            Cond::Value(expression) => self.check_value(expression),
+            Cond::Parenthesis(_, inner, _) => {
+                self.push(Work::Condition(Part::Check, inner))?;
+                Ok(None)
+            }
+            Cond::Not(_, inner) => {
+                self.push(Work::Negation)?;
+                self.push(Work::Condition(Part::Check, inner))?;
+                Ok(None)
+            }
+            Cond::Both(left, _, on_true, on_false, right) => {
+                self.push(Work::Condition(Part::AndThen(*on_true, *on_false), right))?;
+                self.push(Work::Condition(Part::Check, left))?;
+                Ok(None)
+            }
+            Cond::Either(left, _, on_true, on_false, right) => {
+                self.push(Work::Condition(Part::OrElse(*on_true, *on_false), right))?;
+                self.push(Work::Condition(Part::Check, left))?;
+                Ok(None)
+            }
+        }
+    }
+
+    fn check_value(&mut self, expression: &'a Expr) -> Result<Option<Turn>, NoMemory>
+        ensures { IfOk result (λ t. Does (n.outcome_of (works_held self.old.work.items) (state_held self.old.state) (e.truth_of (state_held self.old.state).memory (x.value (program_of self.old.program.now) (expr_of expression.now) (state_held self.old.state)))) t self.old self.new) }
+    {
+        match self.state.value(self.program, expression) {
+            Err(kind) => self.fault(kind),
+            Ok(value) => match self.state.memory.is_true(value) {
+                Err(kind) => self.fault(kind),
+                Ok(b) => {
+                    self.push(Work::Outcome(b))?;
+                    Ok(None)
+                }
+            },
+        }
     }
 }
