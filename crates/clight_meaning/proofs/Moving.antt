@@ -173,13 +173,13 @@ module _ (p : TypedProgram Label) (ws : List Work) where
   moves_comes_out b w st = refl
 
   -- where a loop goes on after its body
-  moves_next : (s : Stmt Label) (st : State) → Moves p (turned p s (Silent ws st) ws st) ((loop_of p s k).next st)
+  moves_next : (s : Stmt Label) (st : State) → Moves p (turned p s ws st) ((loop_of p s k).next st)
   moves_next (While c l body after) st = moves_while c l body after st
   moves_next (Do q body c back a after) st = refl
   moves_next (For head l body after) st = moves_for head l body after _
   moves_next s st = refl
 
-  moves_continued : (s : Stmt Label) (st : State) → Moves p (turned p s (Silent (Leave ByContinue ∷ ws) st) ws st) ((loop_of p s k).continue st)
+  moves_continued : (s : Stmt Label) (st : State) → Moves p (turned p s ws st) ((loop_of p s k).continue st)
   moves_continued (While c l body after) st = moves_while c l body after st
   moves_continued (Do q body c back a after) st = refl
   moves_continued (For head l body after) st = moves_for head l body after _

@@ -1,5 +1,11 @@
 -- The work that is held: the newest is the last of a list and the first of what definitions speak of.
 use Rattle.std.proofs.Common.{◌≡◌, List, [], ◌∷◌, ◌++◌, refl, ap, ◌∙◌}
+use Rattle.std.proofs.Common.{map, sym, ℕ}
+use Rattle.std.proofs.lemmas.List.{append-nil}
+use Rattle.clight_syntax.specs.TypedTrees as t
+use Rattle.clight_syntax.specs.TypedViews.{stmt_of, stmts_of, stmts_onto}
+use Rattle.clight_syntax.specs.declared.typed.Stmt.{Stmt}
+use Rattle.cerco_base.specs.declared.events.Label.{Label}
 use Rattle.clight_meaning.specs.Evaluation as n
 use Rattle.clight_meaning.specs.declared.running.Work.{Work}
 use Rattle.clight_meaning.specs.Holding.{work_held, works_onto, works_held}
@@ -16,4 +22,12 @@ pub works_held-nil : works_held [] ≡ []
 unfolding works_held
 works_held-nil = refl
 
-pub ruleset work_laws = (works_held-last, works_held-nil)
+listed_onto : (xs : List (Stmt Label)) (earlier : t.Stmts Label) (later : List (t.Stmt Label)) → n.listed (stmts_onto xs earlier) later ≡ n.listed earlier (map stmt_of xs ++ later)
+listed_onto [] earlier later = refl
+listed_onto (x ∷ xs) earlier later = listed_onto xs (t.Then earlier (stmt_of x)) later
+
+-- the statements of a body, as the list that is held
+pub listed_is : (xs : List (Stmt Label)) → n.listed (stmts_of xs) [] ≡ map stmt_of xs
+listed_is xs = listed_onto xs t.NoStmts [] ∙ append-nil (map stmt_of xs)
+
+pub ruleset work_laws = (works_held-last, works_held-nil, listed_is)

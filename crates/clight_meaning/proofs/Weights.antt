@@ -171,11 +171,11 @@ module _ (p : TypedProgram Label) (ws : List Work) where
   lessens_ran (Return q None a) st = omega arith
   lessens_ran (Return q (Some e) a) st = lessens_given_back st _ _ (omega arith)
 
-  lessens_turned : (s : Stmt Label) (vs : List Work) (st : State) (m : ℕ) → total_weight vs < m → total_weight ws + turn_nodes s ≤ m → Lessens (turned p s (Silent vs st) ws st) m
-  lessens_turned (While c l body after) vs st m lt le = omega arith
-  lessens_turned (Do q body c back a after) vs st m lt le = omega arith
-  lessens_turned (For head l body after) vs st m lt le = lessens_for _ _ _ _ _ _ (omega arith)
-  lessens_turned s vs st m lt le = lt
+  lessens_turned : (s : Stmt Label) (st : State) (m : ℕ) → total_weight ws + turn_nodes s ≤ m → Lessens (turned p s ws st) m
+  lessens_turned (While c l body after) st m le = omega arith
+  lessens_turned (Do q body c back a after) st m le = omega arith
+  lessens_turned (For head l body after) st m le = lessens_for _ _ _ _ _ _ (omega arith)
+  lessens_turned s st m le = omega arith
 
   lessens_chosen : (s : Stmt Label) (b : Bool) (st : State) (m : ℕ) → Lessens (chosen s b ws st) m
   lessens_chosen (If c one arm other) true st m = tt
@@ -218,7 +218,7 @@ module _ (p : TypedProgram Label) (ws : List Work) where
 
   lessens_left : (way : Way) (w : Work) (st : State) → Lessens (left_by p way w ws st) (1 + (weight w + total_weight ws))
   lessens_left ByBreak (Turn' s) st = lessens_broken s st
-  lessens_left ByContinue (Turn' s) st = let some = turn_some s in lessens_turned s (Leave ByContinue ∷ ws) st _ (omega arith) (omega arith)
+  lessens_left ByContinue (Turn' s) st = lessens_turned s st _ (omega arith)
   lessens_left (ByReturn x) (Turn' s) st = let some = turn_some s in omega arith
   lessens_left way (Caller target R back frame) st = tt
   lessens_left way w st = let some = weight_some w in omega arith
@@ -228,7 +228,7 @@ lessens_step p [] st = tt
 lessens_step p (Run s ∷ ws) st = lessens_ran p ws s st
 lessens_step p (All [] ∷ ws) st = omega arith
 lessens_step p (All (s ∷ ss) ∷ ws) st = lessens_more (ran p s (All ss ∷ ws) st) (nodes s + total_weight (All ss ∷ ws)) _ (omega arith) (lessens_ran p (All ss ∷ ws) s st)
-lessens_step p (Turn' s ∷ ws) st = let some = turn_some s in lessens_turned p ws s ws st _ (omega arith) (omega arith)
+lessens_step p (Turn' s ∷ ws) st = lessens_turned p ws s st _ (omega arith)
 lessens_step p (Check c ∷ ws) st = lessens_checked p ws c st
 lessens_step p (Outcome' b ∷ []) st = tt
 lessens_step p (Outcome' b ∷ w ∷ ws) st = lessens_comes_out p ws b w st

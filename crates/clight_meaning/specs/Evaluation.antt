@@ -85,7 +85,7 @@ abbrev pub loop_of : TypedProgram Label → Stmt Label → Goes → Goes
 loop_of p (While c l body after) k = loop_goes k after (run p (calls p) (While c l body after) k)
 loop_of p (Do q body c back a after) k = loop_goes k after (until p c.condition back after k (run p (calls p) (Do q body c back a after) k))
 loop_of p (For head l body after) k = loop_goes k after (next_of_for p head.step (run p (calls p) (next_turns (For head l body after)) k))
-loop_of p s k = k
+loop_of p s k = record k { break = k.next; continue = k.next }
 
 -- what the outcome of its condition leads to, in a statement
 abbrev pub chooses : TypedProgram Label → Stmt Label → Goes → Bool → State → Rest
@@ -215,18 +215,18 @@ ran p (Continue q a) ws st = Silent (Leave ByContinue ∷ ws) st
 ran p (Return q None a) ws st = Silent (Leave (ByReturn (initial st.frame.result)) ∷ ws) st
 ran p (Return q (Some e) a) ws st = given_back ws st (converted_answer (type_at e) st.frame.result (value p e st))
 
--- a loop after its body, and any other statement where it was left so
-abbrev pub turned : TypedProgram Label → Stmt Label → Move → List Work → State → Move
-turned p (While c l body after) other ws st = Silent (Check c.condition ∷ Wait (Chooser (While c l body after)) ∷ ws) st
-turned p (Do q body c back a after) other ws st = Silent (Check c.condition ∷ Wait (Chooser (Do q body c back a after)) ∷ ws) st
-turned p (For head l body after) other ws st = for_begun head.condition l body (For head l body after) ws (assigned_if_any p head.step st)
-turned p s other ws st = other
+-- a loop after its body
+abbrev pub turned : TypedProgram Label → Stmt Label → List Work → State → Move
+turned p (While c l body after) ws st = Silent (Check c.condition ∷ Wait (Chooser (While c l body after)) ∷ ws) st
+turned p (Do q body c back a after) ws st = Silent (Check c.condition ∷ Wait (Chooser (Do q body c back a after)) ∷ ws) st
+turned p (For head l body after) ws st = for_begun head.condition l body (For head l body after) ws (assigned_if_any p head.step st)
+turned p s ws st = Silent ws st
 
 abbrev pub broken : Stmt Label → List Work → State → Move
 broken (While c l body after) ws st = Says (event.Label after) ws st
 broken (Do q body c back a after) ws st = Says (event.Label after) ws st
 broken (For head l body after) ws st = Says (event.Label after) ws st
-broken s ws st = Silent (Leave ByBreak ∷ ws) st
+broken s ws st = Silent ws st
 
 abbrev pub chosen : Stmt Label → Bool → List Work → State → Move
 chosen (If c one arm other) true ws st = Says (event.Label one) (Run arm ∷ ws) st
@@ -272,7 +272,7 @@ result_of _ st = initial st.frame.result
 
 abbrev pub left_loop : TypedProgram Label → Way → Stmt Label → List Work → State → Move
 left_loop p ByBreak s ws st = broken s ws st
-left_loop p ByContinue s ws st = turned p s (Silent (Leave ByContinue ∷ ws) st) ws st
+left_loop p ByContinue s ws st = turned p s ws st
 left_loop p (ByReturn x) s ws st = Silent (Leave (ByReturn x) ∷ ws) st
 
 -- a statement is left, and this work stands behind it
@@ -286,7 +286,7 @@ stepped p [] st = Ends
 stepped p (Run s ∷ ws) st = ran p s ws st
 stepped p (All [] ∷ ws) st = Silent ws st
 stepped p (All (s ∷ ss) ∷ ws) st = ran p s (All ss ∷ ws) st
-stepped p (Turn' s ∷ ws) st = turned p s (Silent ws st) ws st
+stepped p (Turn' s ∷ ws) st = turned p s ws st
 stepped p (Check c ∷ ws) st = checked p c ws st
 stepped p (Outcome' b ∷ []) st = Ends
 stepped p (Outcome' b ∷ w ∷ ws) st = comes_out b w ws st

@@ -1,7 +1,8 @@
 //! A run, step by step, with what is left to do as a list of work.
-ghost use Rattle.std.specs.Prelude.{◌≡◌, ℕ, ◌∷◌, IfOk, MatchOption, Ok, OnOk, Result};
+ghost use Rattle.std.specs.Prelude.{◌≡◌, ℕ, ◌∷◌, IfOk, MatchOption, Ok, OnOk, Result, if◌then◌else◌, option_map};
+ghost use Rattle.clight_syntax.specs.Types.{type_of};
 ghost use Rattle.clight_syntax.specs.TypedTrees.{type_at};
-ghost use Rattle.clight_syntax.specs.TypedViews.{assignment_of, cond_of, expr_of, for_head_of, program_of, stmt_of};
+ghost use Rattle.clight_syntax.specs.TypedViews.{assignment_of, cond_of, expr_of, function_of, program_of, stmt_of};
 ghost use Rattle.clight_meaning.specs.Expressions as x;
 ghost use Rattle.clight_meaning.specs.Meaning as e;
 ghost use Rattle.clight_meaning.specs.Evaluation as n;
@@ -229,5 +230,144 @@ impl<'a> Running<'a> {
                 }
             },
         }
+    }
+}
+
+impl<'a> Running<'a> {
+    /// Calls a function with these arguments.
+    #[tactic(auto, using(crate::proofs::Stacks::work_laws))]
+    fn begin(
+        &mut self,
+        function: &'a Function<Label>,
+        arguments: Vec<Value>,
+        target: Option<ResultTarget>,
+        back: Label,
+    ) -> Result<Option<Turn>, NoMemory>
+        ensures { IfOk result (λ t. Does (n.begun (function_of function.now) (n.Caller target (type_of function.now.result) back (state_held self.old.state).frame ∷ works_held self.old.work.items) (e.prepared (program_of self.old.program.now) (function_of function.now) (e.entered (program_of self.old.program.now) (function_of function.now) arguments.items (state_held self.old.state)))) t self.old self.new) }
+    {
+        let frame = self
+            .state
+            .enter(self.alloc, self.program, function, arguments)?;
+        self.push(Work::Caller(target, &function.result, back, frame))?;
+        let event = Some(Turn::Event(Event::Label(function.label)));
+        match self.state.prepare(self.program, function) {
+            Err(kind) => {
+                self.push(Work::Faulty(kind))?;
+                Ok(event)
+            }
+            Ok(()) => {
+                self.push(Work::All(function.body.as_slice()))?;
+                Ok(event)
+            }
+        }
+    }
+
+    /// A turn of a `for` begins.
+    fn turn_for(
+        &mut self,
+        s: &'a Stmt<Label>,
+        condition: &'a Option<Cond<Label>>,
+        label: Label,
+        body: &'a Stmt<Label>,
+    ) -> Result<Option<Turn>, NoMemory>
+        ensures { IfOk result (λ t. Does (n.for_turned (option_map cond_of condition.now) label (stmt_of body.now) (stmt_of s.now) (works_held self.old.work.items) (state_held self.old.state)) t self.old self.new) }
+    {
+        match condition {
+            Some(condition) => self.choose(s, condition),
+            None => {
+                self.enter_body(s, body)?;
+                Ok(Some(Turn::Event(Event::Label(label))))
+            }
+        }
+    }
+
+    /// An assignment of the head of a `for`, and then a turn.
+    fn begin_for(
+        &mut self,
+        s: &'a Stmt<Label>,
+        assignment: &'a Option<Assignment>,
+        condition: &'a Option<Cond<Label>>,
+        label: Label,
+        body: &'a Stmt<Label>,
+    ) -> Result<Option<Turn>, NoMemory>
+        ensures { IfOk result (λ t. Does (n.for_begun (option_map cond_of condition.now) label (stmt_of body.now) (stmt_of s.now) (works_held self.old.work.items) (e.assigned_if_any (program_of self.old.program.now) (option_map assignment_of assignment.now) (state_held self.old.state))) t self.old self.new) }
+    {
+        match self.state.assign_if_any(self.program, assignment) {
+            Err(kind) => self.fault(kind),
+            Ok(()) => self.turn_for(s, condition, label, body),
+        }
+    }
+
+    /// What comes after the body of a loop.
+    fn turn(&mut self, s: &'a Stmt<Label>) -> Result<Option<Turn>, NoMemory>
+        ensures { IfOk result (λ t. Does (n.turned (program_of self.old.program.now) (stmt_of s.now) (works_held self.old.work.items) (state_held self.old.state)) t self.old self.new) }
+    {
+        match s {
+            Stmt::While(test, _, _, _) => self.choose(s, &test.condition),
+            Stmt::Do(_, _, test, _, _, _) => self.choose(s, &test.condition),
+            Stmt::For(head, label, body, _) => {
+                self.begin_for(s, &head.step, &head.condition, *label, body)
+            }
+            _ => Ok(None),
+        }
+    }
+
+    /// A loop is left by `break`.
+    fn break_loop(&mut self, s: &'a Stmt<Label>) -> Option<Turn>
+        ensures { Does (n.broken (stmt_of s.now) (works_held self.old.work.items) (state_held self.old.state)) result self.old self.new }
+    {
+        match s {
+            Stmt::While(_, _, _, after) => Some(Turn::Event(Event::Label(*after))),
+            Stmt::Do(_, _, _, _, _, after) => Some(Turn::Event(Event::Label(*after))),
+            Stmt::For(_, _, _, after) => Some(Turn::Event(Event::Label(*after))),
+            _ => None,
+        }
+    }
+
+    /// The outcome of the condition of a statement is known.
+    fn chosen(&mut self, s: &'a Stmt<Label>, outcome: bool) -> Result<Option<Turn>, NoMemory>
+        ensures { IfOk result (λ t. Does (n.chosen (stmt_of s.now) outcome (works_held self.old.work.items) (state_held self.old.state)) t self.old self.new) }
+    {
+        match s {
+            Stmt::If(_, one, arm, other) => {
+                if !outcome {
+                    return Ok(Some(Turn::Event(Event::Label(*other))));
+                }
+                self.push(Work::Statement(Task::Run, arm))?;
+                Ok(Some(Turn::Event(Event::Label(*one))))
+            }
+            Stmt::IfElse(_, one, arm, _, other, otherwise) => {
+                if !outcome {
+                    self.push(Work::Statement(Task::Run, otherwise))?;
+                    return Ok(Some(Turn::Event(Event::Label(*other))));
+                }
+                self.push(Work::Statement(Task::Run, arm))?;
+                Ok(Some(Turn::Event(Event::Label(*one))))
+            }
+            Stmt::While(_, label, body, after) => self.looped(s, body, outcome, *label, *after),
+            Stmt::Do(_, body, _, label, _, after) => {
+                self.looped(s, body, outcome, *label, *after)
+            }
+            Stmt::For(_, label, body, after) => self.looped(s, body, outcome, *label, *after),
+            _ => Ok(self.end()),
+        }
+    }
+
+    /// A loop goes on with its body, or is over.
+    fn looped(
+        &mut self,
+        s: &'a Stmt<Label>,
+        body: &'a Stmt<Label>,
+        outcome: bool,
+        label: Label,
+        after: Label,
+    ) -> Result<Option<Turn>, NoMemory>
+        ensures { IfOk result (λ t. Does (if outcome then n.Says (Event.Label label) (n.Run (stmt_of body.now) ∷ n.Turn' (stmt_of s.now) ∷ works_held self.old.work.items) (state_held self.old.state) else n.Says (Event.Label after) (works_held self.old.work.items) (state_held self.old.state)) t self.old self.new) }
+    {
+        if !outcome {
+            return Ok(Some(Turn::Event(Event::Label(after))));
+        }
+        self.enter_body(s, body)?;
+        Ok(Some(Turn::Event(Event::Label(label))))
     }
 }
