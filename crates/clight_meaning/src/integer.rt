@@ -1,5 +1,6 @@
 //! The arithmetic of integers, by the bits of their types (ISO/IEC 9899:1999, 6.3.1 and 6.5.3 to 6.5.12).
-ghost use Rattle.std.specs.Prelude.{◌≡◌, ◌<◌, ◌≤◌, ◌^◌, ◌%◌, ◌/◌};
+ghost use Rattle.std.specs.Prelude.{◌≡◌, ◌<◌, ◌≤◌, ◌^◌, ◌%◌, ◌/◌, false};
+ghost use Rattle.clight_syntax.specs.Types as Char;
 ghost use Rattle.clight_meaning.specs.Values as v;
 ghost use Rattle.clight_meaning.specs.Views.{size_held, integer_held};
 
@@ -96,6 +97,17 @@ impl IntegerType {
             u64::from(x)
         };
         to.wrapped(wide)
+    }
+
+    /// A value of this type as an `unsigned char`.
+    pub(crate) fn low_byte(self, x: u32) -> u8
+        ensures { result ≡ v.converted (integer_held self) (record { size = Char.One; signed = false }) x }
+    {
+        let to = IntegerType {
+            size: Size::One,
+            signed: false,
+        };
+        (self.converted(to, x) % 0x100) as u8
     }
 
     pub(crate) fn promoted(self) -> IntegerType

@@ -1,20 +1,20 @@
 //! A run, step by step, with what is left to do as a list of work.
-ghost use Rattle.std.specs.Prelude.{◌≡◌, ℕ, ◌∷◌, IfOk, MatchOption, Ok, OnOk, Result, if◌then◌else◌, option_map};
+ghost use Rattle.std.specs.Prelude.{◌≡◌, ℕ, ◌∷◌, IfOk, MatchOption, Ok, OnOk, Result, if◌then◌else◌, List, MatchResult, map, option_copied, option_map, slice_get};
 ghost use Rattle.clight_syntax.specs.Types.{type_of};
 ghost use Rattle.clight_syntax.specs.TypedTrees.{type_at};
-ghost use Rattle.clight_syntax.specs.TypedViews.{assignment_of, cond_of, expr_of, function_of, program_of, stmt_of};
+ghost use Rattle.clight_syntax.specs.TypedViews.{assignment_of, call_of, cond_of, expr_of, function_of, program_of, stmt_of};
 ghost use Rattle.clight_meaning.specs.Expressions as x;
 ghost use Rattle.clight_meaning.specs.Meaning as e;
 ghost use Rattle.clight_meaning.specs.Evaluation as n;
 ghost use Rattle.clight_meaning.specs.Memory.{State as HeldState};
-ghost use Rattle.clight_meaning.specs.Holding.{Does, Enters, Pops, Pushes, work_held, works_held, way_held};
+ghost use Rattle.clight_meaning.specs.Holding.{condition_held, Does, Enters, Pops, Pushes, work_held, works_held, way_held};
 ghost use Rattle.clight_meaning.specs.Views.{Makes, state_held};
 ghost use Rattle.cerco_base.specs.declared.events.FaultKind.{FaultKind};
 
 use crate::calls::Missing;
 use crate::lookup::item_at;
 use crate::memory::initial;
-use crate::state::{converted_answer, type_at, Frame, State};
+use crate::state::{converted_answer, integer_type, type_at, Frame, State};
 use crate::turn::Turn;
 use crate::value::Value;
 use cerco_base::{Event, FaultKind, Label, NoMemory, Port};
@@ -369,5 +369,181 @@ impl<'a> Running<'a> {
         }
         self.enter_body(s, body)?;
         Ok(Some(Turn::Event(Event::Label(label))))
+    }
+}
+
+/// The byte that a value gives to a port.
+fn port_byte(from: &Ty, value: Result<Value, FaultKind>) -> Result<u8, FaultKind>
+    ensures { MatchResult result (λ byte. e.converted_answer (type_of from.now) e.unsigned_char value ≡ Ok (Value.Integer byte)) (λ kind. (ws : List n.Work) (st : HeldState) → n.written ws st (e.converted_answer (type_of from.now) e.unsigned_char value) ≡ n.Fails kind) }
+{
+    match value {
+        Err(kind) => Err(kind),
+        Ok(value) => match integer_type(from) {
+            None => Err(FaultKind::Outside),
+            Some(source) => match value {
+                Value::Integer(bits) => Ok(source.low_byte(bits)),
+                _ => Err(FaultKind::Outside),
+            },
+        },
+    }
+}
+
+impl<'a> Running<'a> {
+    /// Writes a value to the port.
+    fn write(&mut self, expression: &'a Expr) -> Result<Option<Turn>, NoMemory>
+        ensures { IfOk result (λ t. Does (n.written (works_held self.old.work.items) (state_held self.old.state) (e.converted_answer (type_at (expr_of expression.now)) e.unsigned_char (x.value (program_of self.old.program.now) (expr_of expression.now) (state_held self.old.state)))) t self.old self.new) }
+    {
+        let value = self.state.value(self.program, expression);
+        match port_byte(type_at(expression), value) {
+            Err(kind) => self.fault(kind),
+            Ok(byte) => Ok(Some(Turn::Event(Event::Write(Port::P1, byte)))),
+        }
+    }
+
+    /// The function with this number, if there is one.
+    fn function(&self, number: u32) -> Option<&'a Function<Label>>
+        ensures { option_map (λ f. function_of f) (option_copied result) ≡ slice_get (program_of self.now.program.now).functions number }
+    {
+        item_at(self.program.functions.as_slice(), number as usize)
+    }
+
+    /// Calls a function.
+    fn call(&mut self, call: &'a Call, back: Label) -> Result<Option<Turn>, NoMemory>
+        ensures { IfOk result (λ t. Does (n.called (program_of self.old.program.now) (call_of call.now) back (works_held self.old.work.items) (state_held self.old.state) (e.argument_values (program_of self.old.program.now) (e.argument_list (call_of call.now).arguments) (e.first_parameter (program_of self.old.program.now) call.now.function) (state_held self.old.state))) t self.old self.new) }
+    {
+        let first = match self.function(call.function) {
+            None => 0,
+            Some(function) => function.first_variable,
+        };
+        let arguments =
+            self.state
+                .argument_values(self.alloc, self.program, &call.arguments, first);
+        match arguments {
+            Err(Missing::Memory) => Err(NoMemory),
+            Err(Missing::Fault(kind)) => self.fault(kind),
+            Ok(arguments) => match self.function(call.function) {
+                None => Ok(self.end()),
+                Some(function) => self.begin(function, arguments, call.target, back),
+            },
+        }
+    }
+
+    /// Runs a statement.
+    #[tactic(auto, using(crate::proofs::Stacks::block_laws))]
+    fn run(&mut self, s: &'a Stmt<Label>) -> Result<Option<Turn>, NoMemory>
+        ensures { IfOk result (λ t. Does (n.ran (program_of self.old.program.now) (stmt_of s.now) (works_held self.old.work.items) (state_held self.old.state)) t self.old self.new) }
+    {
+        match s {
+            Stmt::Empty(_) => Ok(None),
+            Stmt::Block(_, statements, _) => {
+                self.push(Work::All(statements.as_slice()))?;
+                Ok(None)
+            }
+            Stmt::Assign(assignment, _) => self.assign(assignment),
+            Stmt::ReadPort(target, _, _, _) => self.read(target),
+            Stmt::WritePort(_, _, value, _) => self.write(value),
+            Stmt::Call(call, _, back) => self.call(call, *back),
+            Stmt::If(test, _, _, _) => self.choose(s, &test.condition),
+            Stmt::IfElse(test, _, _, _, _, _) => self.choose(s, &test.condition),
+            Stmt::While(test, _, _, _) => self.choose(s, &test.condition),
+            Stmt::Do(_, body, _, _, _, _) => {
+                self.enter_body(s, body)?;
+                Ok(None)
+            }
+            Stmt::For(head, label, body, _) => {
+                self.begin_for(s, &head.first, &head.condition, *label, body)
+            }
+            Stmt::Break(_, _) => self.leave(Way::Break),
+            Stmt::Continue(_, _) => self.leave(Way::Continue),
+            Stmt::Return(_, None, _) => {
+                let value = initial(self.state.frame.result);
+                self.leave(Way::Return(value))
+            }
+            Stmt::Return(_, Some(value), _) => self.give_back(value),
+        }
+    }
+
+    /// The statements around are left.
+    fn leave(&mut self, way: Way) -> Result<Option<Turn>, NoMemory>
+        ensures { IfOk result (λ t. Does (n.Silent (n.Leave (way_held way) ∷ works_held self.old.work.items) (state_held self.old.state)) t self.old self.new) }
+    {
+        self.push(Work::Leave(way))?;
+        Ok(None)
+    }
+
+    /// Runs what is left of a block.
+    fn run_all(&mut self, statements: &'a [Stmt<Label>]) -> Result<Option<Turn>, NoMemory>
+        ensures { IfOk result (λ t. Does (n.stepped (program_of self.old.program.now) (n.All (map stmt_of statements.now) ∷ works_held self.old.work.items) (state_held self.old.state)) t self.old self.new) }
+    {
+        match statements {
+            [] => Ok(None),
+            [s, rest @ ..] => {
+                self.push(Work::All(rest))?;
+                self.run(s)
+            }
+        }
+    }
+
+    /// An outcome comes to what waits for it.
+    fn come_out(&mut self, outcome: bool) -> Result<Option<Turn>, NoMemory>
+        ensures { IfOk result (λ t. Does (n.stepped (program_of self.old.program.now) (n.Outcome' outcome ∷ works_held self.old.work.items) (state_held self.old.state)) t self.old self.new) }
+    {
+        match self.pop() {
+            None => Ok(self.end()),
+            Some(Work::Statement(task, s)) => match task {
+                Task::Choose => self.chosen(s, outcome),
+                Task::Run => Ok(self.end()),
+                Task::Turn => Ok(self.end()),
+            },
+            Some(Work::Condition(part, condition)) => self.operand(part, condition, outcome),
+            Some(Work::Negation) => self.known(!outcome),
+            Some(Work::All(_)) => Ok(self.end()),
+            Some(Work::Outcome(_)) => Ok(self.end()),
+            Some(Work::Pass(_)) => Ok(self.end()),
+            Some(Work::Caller(_, _, _, _)) => Ok(self.end()),
+            Some(Work::Take(_, _, _)) => Ok(self.end()),
+            Some(Work::Leave(_)) => Ok(self.end()),
+            Some(Work::Faulty(_)) => Ok(self.end()),
+        }
+    }
+
+    /// The outcome of a condition is known.
+    fn known(&mut self, outcome: bool) -> Result<Option<Turn>, NoMemory>
+        ensures { IfOk result (λ t. Does (n.Silent (n.Outcome' outcome ∷ works_held self.old.work.items) (state_held self.old.state)) t self.old self.new) }
+    {
+        self.push(Work::Outcome(outcome))?;
+        Ok(None)
+    }
+
+    /// The outcome of a left operand is known.
+    fn operand(
+        &mut self,
+        part: Part,
+        right: &'a Cond<Label>,
+        outcome: bool,
+    ) -> Result<Option<Turn>, NoMemory>
+        ensures { IfOk result (λ t. Does (n.comes_out outcome (condition_held part (cond_of right.now)) (works_held self.old.work.items) (state_held self.old.state)) t self.old self.new) }
+    {
+        match part {
+            Part::Check => Ok(self.end()),
+            Part::AndThen(on_true, on_false) => {
+                if outcome {
+                    self.push(Work::Condition(Part::Check, right))?;
+                    Ok(Some(Turn::Event(Event::Label(on_true))))
+                } else {
+                    self.push(Work::Outcome(false))?;
+                    Ok(Some(Turn::Event(Event::Label(on_false))))
+                }
+            }
+            Part::OrElse(on_true, on_false) => {
+                if outcome {
+                    self.push(Work::Outcome(true))?;
+                    Ok(Some(Turn::Event(Event::Label(on_true))))
+                } else {
+                    self.push(Work::Condition(Part::Check, right))?;
+                    Ok(Some(Turn::Event(Event::Label(on_false))))
+                }
+            }
+        }
     }
 }
