@@ -10,3 +10,4 @@ pub mod Lists
 pub mod Nesting
 pub mod Filling
 pub mod Stacks
+pub mod Telling

@@ -6,3 +6,4 @@ pub mod Evaluation
 pub mod Missing
 pub mod Views
 pub mod Holding
+pub mod Turns

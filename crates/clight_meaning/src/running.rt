@@ -8,7 +8,8 @@ ghost use Rattle.clight_meaning.specs.Meaning as e;
 ghost use Rattle.clight_meaning.specs.Evaluation as n;
 ghost use Rattle.clight_meaning.specs.Memory.{State as HeldState};
 ghost use Rattle.clight_meaning.specs.Holding.{condition_held, Does, Enters, Pops, Pushes, work_held, works_held, way_held};
-ghost use Rattle.clight_meaning.specs.Views.{Makes, state_held};
+ghost use Rattle.clight_meaning.specs.Turns.{Tells, rest_held};
+ghost use Rattle.clight_meaning.specs.Views.{Makes, frame_held, state_held};
 ghost use Rattle.cerco_base.specs.declared.events.FaultKind.{FaultKind};
 
 use crate::calls::Missing;
@@ -543,6 +544,134 @@ impl<'a> Running<'a> {
                     self.push(Work::Condition(Part::Check, right))?;
                     Ok(Some(Turn::Event(Event::Label(on_false))))
                 }
+            }
+        }
+    }
+}
+
+impl<'a> Running<'a> {
+    /// A call is over, and its caller is to take its result.
+    fn come_back(
+        &mut self,
+        target: Option<ResultTarget>,
+        ty: &'a Ty,
+        back: Label,
+        frame: Frame<'a>,
+        value: Value,
+    ) -> Result<Option<Turn>, NoMemory>
+        ensures { IfOk result (λ t. Does (n.Says (Event.Label back) (n.Take target (type_of ty.now) value ∷ works_held self.old.work.items) (e.returned (frame_held frame.entry) (state_held self.old.state))) t self.old self.new) }
+    {
+        self.state.come_back(frame);
+        self.push(Work::Take(target, ty, value))?;
+        Ok(Some(Turn::Event(Event::Label(back))))
+    }
+
+    /// The result with which a call is left.
+    fn result_of(&self, way: Way) -> Value
+        ensures { result ≡ n.result_of (way_held way) (state_held self.now.state) }
+    {
+        match way {
+            Way::Return(value) => value,
+            Way::Break => initial(self.state.frame.result),
+            Way::Continue => initial(self.state.frame.result),
+        }
+    }
+
+    /// A statement is left, and the work behind it too, up to a loop or a caller.
+    fn leave_by(&mut self, way: Way) -> Result<Option<Turn>, NoMemory>
+        ensures { IfOk result (λ t. Does (n.stepped (program_of self.old.program.now) (n.Leave (way_held way) ∷ works_held self.old.work.items) (state_held self.old.state)) t self.old self.new) }
+    {
+        match self.pop() {
+            None => Ok(self.end()),
+            Some(Work::Statement(task, s)) => match task {
+                Task::Turn => self.leave_loop(way, s),
+                Task::Run => self.leave(way),
+                Task::Choose => self.leave(way),
+            },
+            Some(Work::Caller(target, ty, back, frame)) => {
+                let value = self.result_of(way);
+                self.come_back(target, ty, back, frame, value)
+            }
+            Some(Work::Condition(part, _)) => match part {
+                Part::Check => self.leave(way),
+                Part::AndThen(_, _) => self.leave(way),
+                Part::OrElse(_, _) => self.leave(way),
+            },
+            Some(Work::All(_)) => self.leave(way),
+            Some(Work::Outcome(_)) => self.leave(way),
+            Some(Work::Negation) => self.leave(way),
+            Some(Work::Pass(_)) => self.leave(way),
+            Some(Work::Take(_, _, _)) => self.leave(way),
+            Some(Work::Leave(_)) => self.leave(way),
+            Some(Work::Faulty(_)) => self.leave(way),
+        }
+    }
+
+    /// The body of a loop is left.
+    fn leave_loop(&mut self, way: Way, s: &'a Stmt<Label>) -> Result<Option<Turn>, NoMemory>
+        ensures { IfOk result (λ t. Does (n.left_loop (program_of self.old.program.now) (way_held way) (stmt_of s.now) (works_held self.old.work.items) (state_held self.old.state)) t self.old self.new) }
+    {
+        match way {
+            Way::Break => Ok(self.break_loop(s)),
+            Way::Continue => self.turn(s),
+            Way::Return(_) => self.leave(way),
+        }
+    }
+
+    /// Gives a result to its target.
+    fn take(
+        &mut self,
+        target: Option<ResultTarget>,
+        ty: &'a Ty,
+        value: Value,
+    ) -> Result<Option<Turn>, NoMemory>
+        ensures { IfOk result (λ t. Does (n.quietly (works_held self.old.work.items) (e.taken (program_of self.old.program.now) target (type_of ty.now) value (state_held self.old.state))) t self.old self.new) }
+    {
+        match self.state.take_result(self.program, target, ty, value) {
+            Err(kind) => self.fault(kind),
+            Ok(()) => Ok(None),
+        }
+    }
+
+    /// Does the first work.
+    fn step(&mut self) -> Result<Option<Turn>, NoMemory>
+        ensures { IfOk result (λ t. Does (n.stepped (program_of self.old.program.now) (works_held self.old.work.items) (state_held self.old.state)) t self.old self.new) }
+    {
+        match self.pop() {
+            None => Ok(self.end()),
+            Some(Work::Statement(task, s)) => match task {
+                Task::Run => self.run(s),
+                Task::Turn => self.turn(s),
+                Task::Choose => Ok(None),
+            },
+            Some(Work::All(statements)) => self.run_all(statements),
+            Some(Work::Condition(part, condition)) => match part {
+                Part::Check => self.check(condition),
+                Part::AndThen(_, _) => Ok(None),
+                Part::OrElse(_, _) => Ok(None),
+            },
+            Some(Work::Outcome(outcome)) => self.come_out(outcome),
+            Some(Work::Negation) => Ok(None),
+            Some(Work::Pass(label)) => Ok(Some(Turn::Event(Event::Label(label)))),
+            Some(Work::Caller(target, ty, back, frame)) => {
+                let value = initial(self.state.frame.result);
+                self.come_back(target, ty, back, frame, value)
+            }
+            Some(Work::Take(target, ty, value)) => self.take(target, ty, value),
+            Some(Work::Leave(way)) => self.leave_by(way),
+            Some(Work::Faulty(kind)) => self.fault(kind),
+        }
+    }
+
+    /// The next event of the run, its end, or its fault.
+    pub(crate) fn next(&mut self) -> Result<Turn, NoMemory>
+        ensures { IfOk result (λ t. Tells t (rest_held self.old) (rest_held self.new)) }
+    {
+        'unseen: loop {
+            let answer = self.step()?;
+            match answer {
+                Some(turn) => return Ok(turn),
+                None => {}
             }
         }
     }
