@@ -1,14 +1,14 @@
 //! The annotated text of a source: the source with the C text that makes it count its own cost.
 #![tactic(auto)]
 
-ghost use Rattle.std.specs.Prelude.{◌≡◌, ◌++◌, length, decimal};
+ghost use Rattle.std.specs.Prelude.{◌≡◌, ◌<◌, ◌++◌, ◌∷◌, length, slice_index, decimal, codes};
 ghost use Rattle.std.specs.List.{flat_map};
 ghost use Rattle.cerco_base.specs.Calls.{PutsText};
-ghost use Rattle.clight_syntax.specs.Annotations.{annotated, piece_text, AreInOrder, HasLabelsBelow, HaveLabelsBelow, numbers_of};
+ghost use Rattle.clight_syntax.specs.Annotations.{annotated, around, piece_text, AreInOrder, HasLabelsBelow, HaveLabelsBelow, labels_in, AreNumberedInOrder, BeginWithStart, numbers_of};
 ghost use Rattle.clight_syntax.specs.Erasure.{erased, HasNoMarker};
 ghost use Rattle.clight_syntax.specs.Numbers.{numbers};
 
-use cerco_base::{IoFault, Sink, put_all};
+use cerco_base::{IoFault, Label, Sink, put_all};
 use clight_syntax::{Piece, Point, Points};
 use itoa::Buffer;
 
@@ -28,6 +28,38 @@ fn put_number<O: Sink>(
     put_all(out, behind)
 }
 
+// Puts the cost of a label between two texts.
+fn put_cost<O: Sink>(
+    before: &[u8],
+    label: Label,
+    costs: &[u32],
+    behind: &[u8],
+    out: &mut O,
+) -> Result<(), IoFault>
+    requires { label.0 < length costs.now }
+    ensures { PutsText (O.state out.old) (O.state out.new)
+        (around before.now (slice_index costs.now label.0) behind.now) result }
+{
+    put_number(before, costs[label.0 as usize], behind, out)
+}
+
+// Puts the annotation behind the left operand of `&&` or `||`, with the costs where it is true and where it is false.
+fn put_both<O: Sink>(
+    on_true: Label,
+    on_false: Label,
+    costs: &[u32],
+    out: &mut O,
+) -> Result<(), IoFault>
+    requires first { on_true.0 < length costs.now }
+    requires second { on_false.0 < length costs.now }
+    ensures { PutsText (O.state out.old) (O.state out.new)
+        (around (codes "/*@*/)?(__cost+=") (slice_index costs.now on_true.0)
+        (around (codes ",1):(__cost+=") (slice_index costs.now on_false.0) (codes ",0))/*@*/"))) result }
+{
+    put_cost(b"/*@*/)?(__cost+=", on_true, costs, b",1):(__cost+=", out)?;
+    put_cost(b"", on_false, costs, b",0))/*@*/", out)
+}
+
 // Puts an annotation.
 fn put_piece<O: Sink>(piece: Piece, start: u32, costs: &[u32], out: &mut O) -> Result<(), IoFault>
     requires { HasLabelsBelow (length costs.now) piece }
@@ -36,9 +68,22 @@ fn put_piece<O: Sink>(piece: Piece, start: u32, costs: &[u32], out: &mut O) -> R
 {
     match piece {
         Piece::Start => put_number(b"/*@*/unsigned long __cost=", start, b";/*@*/", out),
-        Piece::After(label) => {
-            put_number(b"/*@*/__cost+=", costs[label.0 as usize], b";/*@*/", out)
-        }
+        Piece::After(label) => put_cost(b"/*@*/__cost+=", label, costs, b";/*@*/", out),
+        Piece::ArmOpen(label) => put_cost(b"/*@*/{__cost+=", label, costs, b";/*@*/", out),
+        Piece::ArmClose => put_all(out, b"/*@*/}/*@*/"),
+        Piece::ThenClose(label) => put_cost(b"/*@*/}else{__cost+=", label, costs, b";}/*@*/", out),
+        Piece::BodyClose(label) => put_cost(b"/*@*/}__cost+=", label, costs, b";/*@*/", out),
+        Piece::DoOpen => put_all(out, b"/*@*/{/*@*/"),
+        Piece::DoClose => put_all(out, b"/*@*/}/*@*/"),
+        Piece::CondOpen => put_all(out, b"/*@*/((/*@*/"),
+        Piece::CondBoth(on_true, on_false) => put_both(on_true, on_false, costs, out),
+        Piece::CondRepeat(label) => put_cost(
+            b"/*@*/)?(__cost+=",
+            label,
+            costs,
+            b",1):0)/*@*/",
+            out,
+        ),
     }
 }
 
@@ -94,6 +139,12 @@ pub fn annotate<O: Sink>(
     ensures counts { HasNoMarker source.now →
         numbers (annotated source.now points.now (record { start = start; labels = costs.now }))
         ≡ flat_map (λ point. numbers_of (record { start = start; labels = costs.now }) point.piece) points.now }
+
+    // Where they begin with that of the start and name as many labels as there are costs, by their numbers in order, the
+    // numbers are the cost of the start and the costs of the labels: number l + 1 is the cost of label l.
+    ensures costs { HasNoMarker source.now → BeginWithStart points.now → AreNumberedInOrder (labels_in points.now)
+        → length (labels_in points.now) ≡ length costs.now
+        → numbers (annotated source.now points.now (record { start = start; labels = costs.now })) ≡ start ∷ costs.now }
 {
     put_annotated(source, points.as_slice(), start, costs, out)
 }

@@ -1,5 +1,5 @@
 use super::*;
-use cerco_base::{Label, MemorySink, SoundSink};
+use cerco_base::{MemorySink, SoundSink};
 use std::test::Fail;
 
 const START: Point = Point {
@@ -54,6 +54,34 @@ fn a_fault_leaves_a_prefix(rt: HostRuntime) -> Result<(), Fail> {
     assert_eq!(rt;
         out.bytes(),
         b"/*@*/unsigned long __cost=4294967295".as_slice()
+    );
+    Ok(())
+}
+
+#[test]
+fn a_condition_and_an_arm_are_annotated(rt: HostRuntime) -> Result<(), Fail> {
+    let mut points = Points::new(rt.alloc());
+    points.push(Point {
+        at: 0,
+        piece: Piece::CondOpen,
+    })?;
+    points.push(Point {
+        at: 1,
+        piece: Piece::CondBoth(Label(0), Label(1)),
+    })?;
+    points.push(Point {
+        at: 4,
+        piece: Piece::ArmOpen(Label(2)),
+    })?;
+    points.push(Point {
+        at: 5,
+        piece: Piece::ThenClose(Label(3)),
+    })?;
+    let mut out = SoundSink::new(rt.alloc());
+    annotate(b"a&&b;", &points, 0, &[1, 2, 3, 4], &mut out)?;
+    assert_eq!(rt;
+        out.bytes(),
+        b"/*@*/((/*@*/a/*@*/)?(__cost+=1,1):(__cost+=2,0))/*@*/&&b/*@*/{__cost+=3;/*@*/;/*@*/}else{__cost+=4;}/*@*/".as_slice()
     );
     Ok(())
 }

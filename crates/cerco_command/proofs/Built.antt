@@ -1,20 +1,20 @@
 -- How `build` ends, from what its stages did.
-use Rattle.std.proofs.Common.{◌≡◌, ℕ, ◌≤◌, List, [], ◌∷◌, length, take, take_all, Bool, true, false, not, ◌&&◌, bytes_eq, IsTrue, Option, Some, None, option_map, cond, codes, refl, sym, ap, subst, ◌∙◌, arith, inl, inr}
+use Rattle.std.proofs.Common.{◌≡◌, ℕ, ◌≤◌, List, [], ◌∷◌, length, take, take_all, Bool, true, false, not, ◌&&◌, bytes_eq, IsTrue, Some, None, refl, sym, ap, subst, ◌∙◌, arith, inl, inr, ◌⊎◌}
 use Rattle.std.proofs.lemmas.Bool.{true≢false}
 use Rattle.std.proofs.lemmas.Slice.Eq.{bytes_eq-Decides}
 use Rattle.std.proofs.lemmas.List.{length-take}
 use Rattle.cerco_base.specs.States.{FilesState, SameFiles}
 use Rattle.cerco_base.proofs.Putting.{rose_since}
-use Rattle.object_hex.specs.MapText.{map_text}
-use Rattle.cerco_command.specs.Words.{BuildFiles, HaveDifferentNames, all_differ, build_of, is_build, is_name, request_of}
-use Rattle.cerco_command.specs.Words as Request
+use Rattle.cerco_command.specs.Words.{BuildFiles, HaveDifferentNames}
 use Rattle.cerco_command.specs.PortPrograms.{IsPortProgram, IsNoPortProgram}
 use Rattle.cerco_command.specs.Answers.{AreWritten, ArePartlyWritten}
-use Rattle.cerco_command.specs.Building.{IsCompiled, Builds, PartlyBuilds, IsOutput, BuildMeans}
-use Rattle.cerco_command.specs.Stages.{IsRead, AreTexts, named_texts, IsNameOf, BuildsOn}
+use Rattle.cerco_command.specs.Building.{AreCompiled, outputs, Builds, PartlyBuilds, IsOutput, BuildMeans}
+use Rattle.cerco_command.specs.Inputs.{IsRead, CannotRead}
+use Rattle.cerco_command.specs.Messages.{no_file}
+use Rattle.cerco_command.specs.Stages.{IsNameOf, BuildsOn}
 use Rattle.cerco_command.proofs.Writing.{written_from, partly_from}
 use Rattle.cerco_command.specs.declared.status.Status.{Status}
-use Rattle.cerco_command.specs.declared.status.Status.TheVariants.{Done, NoFile, Usage, Refused, FileFault, NoMemory}
+use Rattle.cerco_command.specs.declared.status.Status.TheVariants.{Done, NoFile, Refused, FileFault, NoMemory}
 
 -- names that differ one way differ the other way
 differ_back : (a b : List ℕ) → bytes_eq a b ≡ false → bytes_eq b a ≡ false
@@ -63,81 +63,71 @@ no_whole text all e none values p =
     let short = p.short in
     none values (subst (λ (t : List ℕ). IsPortProgram t values) (sym (e ∙ take_all 65536 all (omega arith))) p)
 
-module _ (files : BuildFiles) (text : List ℕ) (s t u : FilesState) (later : s.faults ≤ t.faults) (read : IsTrue s.known → IsRead s files.source text) (same : IsTrue s.known → SameFiles s t) (known : IsTrue s.known → IsTrue t.known) where
-  read_source : (code labels annotated : List ℕ) → IsCompiled text code labels annotated → (h : IsTrue s.known) → s.file files.source ≡ Some text
-  read_source code labels annotated c h = let r = read h in r.1 ∙ ap Some (sym (whole text r.0 r.2 c.program.short))
+module _ (files : BuildFiles) (text : List ℕ) (s t u : FilesState) (later : s.faults ≤ t.faults) (read : IsTrue s.known → IsRead 65536 s files.source text) (same : IsTrue s.known → SameFiles s t) (known : IsTrue s.known → IsTrue t.known) where
+  source_read : (hex map annotated : List ℕ) → AreCompiled text hex map annotated → (h : IsTrue s.known) → s.file files.source ≡ Some text
+  source_read hex map annotated c h = let r = read h in r.1 ∙ ap Some (sym (whole text r.0 r.2 c.compiled.program.short))
 
-  part : (hex map annotated : List ℕ) → AreTexts text hex map annotated → (IsTrue t.known → ArePartlyWritten (named_texts files hex map annotated) t u) → IsTrue s.known → PartlyBuilds files s u
+  part : (hex map annotated : List ℕ) → AreCompiled text hex map annotated → (IsTrue t.known → ArePartlyWritten (outputs files hex map annotated) t u) → IsTrue s.known → PartlyBuilds files s u
   part hex map annotated a p h =
       record {
         source = text;
-        code = a.code;
-        labels = a.labels;
+        hex = hex;
+        map = map;
         annotated = annotated;
-        read = read_source a.code a.labels annotated a.compiled h;
-        compiled = a.compiled;
-        written = subst (λ (x : List ℕ). ArePartlyWritten ((files.hex, x) ∷ (files.map, map_text a.labels) ∷ (files.annotated, annotated) ∷ []) s u) a.hex_is
-            (subst (λ (x : List ℕ). ArePartlyWritten ((files.hex, hex) ∷ (files.map, x) ∷ (files.annotated, annotated) ∷ []) s u) a.map_is
-            (partly_from (named_texts files hex map annotated) s t u (same h) (p (known h))));
+        read = source_read hex map annotated a h;
+        texts = a;
+        written = partly_from (outputs files hex map annotated) s t u (same h) (p (known h));
       }
 
-  all : Differ files → (hex map annotated : List ℕ) → AreTexts text hex map annotated → (IsTrue t.known → AreWritten (named_texts files hex map annotated) t u) → IsTrue s.known → Builds files s u
+  all : Differ files → (hex map annotated : List ℕ) → AreCompiled text hex map annotated → (IsTrue t.known → AreWritten (outputs files hex map annotated) t u) → IsTrue s.known → Builds files s u
   all d hex map annotated a w h =
-      let p = written_from (named_texts files hex map annotated) s t u (same h) (w (known h)) in
+      let p = written_from (outputs files hex map annotated) s t u (same h) (w (known h)) in
       let u₁ = p.0 in let u₂ = p.2.0 in let u₃ = p.2.2.0 in
       let first = p.1 in let second = p.2.1 in let third = p.2.2.1 in let last = p.2.2.2 in
       record {
         source = text;
-        code = a.code;
-        labels = a.labels;
+        hex = hex;
+        map = map;
         annotated = annotated;
-        read = read_source a.code a.labels annotated a.compiled h;
-        compiled = a.compiled;
-        hex_written = last files.hex ∙ (third.others files.hex d.annotated_hex ∙ (second.others files.hex d.map_hex ∙ (first.here ∙ ap Some a.hex_is)));
-        map_written = last files.map ∙ (third.others files.map d.annotated_map ∙ (second.here ∙ ap Some a.map_is));
+        read = source_read hex map annotated a h;
+        texts = a;
+        hex_written = last files.hex ∙ (third.others files.hex d.annotated_hex ∙ (second.others files.hex d.map_hex ∙ first.here));
+        map_written = last files.map ∙ (third.others files.map d.annotated_map ∙ second.here);
         annotated_written = last files.annotated ∙ third.here;
         others = λ q n₁ n₂ n₃. last q ∙ (third.others q n₃ ∙ (second.others q n₂ ∙ first.others q n₁));
       }
 
-  is_output : (hex map annotated : List ℕ) → IsNameOf u.last_fault (named_texts files hex map annotated) → IsOutput files u.last_fault
+  is_output : (hex map annotated : List ℕ) → IsNameOf u.last_fault (outputs files hex map annotated) → IsOutput files u.last_fault
   is_output hex map annotated (inl e) = inl e
   is_output hex map annotated (inr (inl e)) = inr (inl e)
   is_output hex map annotated (inr (inr (inl e))) = inr (inr e)
   is_output hex map annotated (inr (inr (inr e))) = absurd e
 
-  pub built : HaveDifferentNames files → (status : Status) → BuildsOn files text t u status → BuildMeans files s u status []
-  built d Done b = (refl, all (different files d) b.hex b.map b.annotated b.texts b.finishes)
-  built d NoFile b = absurd b.finishes
-  built d Usage b = absurd b.finishes
-  built d Refused b = (refl, λ h. let r = read h in record { source = r.0; read = r.1; no_program = no_whole text r.0 r.2 b.0; same = λ q. b.1 (known h) q ∙ same h q })
-  built d FileFault b = (refl, rose_since s.faults t.faults u.faults later b.finishes.0, inr (is_output b.hex b.map b.annotated b.finishes.1, part b.hex b.map b.annotated b.texts b.finishes.2))
-  built d NoMemory (inl b) = (refl, λ h. inl (λ q. b (known h) q ∙ same h q))
-  built d NoMemory (inr b) = (refl, λ h. inr (part b.hex b.map b.annotated b.texts b.finishes h))
+  pub built : HaveDifferentNames files → (status : Status) (line : List ℕ) → BuildsOn files text t u status line → BuildMeans files s u status line
+  built d Done line b = (b.finishes.0, all (different files d) b.hex b.map b.annotated b.texts b.finishes.1)
+  built d Refused line b = (b.0, λ h. let r = read h in record { source = r.0; read = r.1; no_program = no_whole text r.0 r.2 b.1; same = λ q. b.2 (known h) q ∙ same h q })
+  built d FileFault line b =
+      let why = b.finishes.0 in
+      (why.0, rose_since s.faults t.faults u.faults later why.1, inr (is_output b.hex b.map b.annotated why.2, part b.hex b.map b.annotated b.texts b.finishes.1))
+  built d NoMemory line (inl b) = (b.0, λ h. inl (λ q. b.1 (known h) q ∙ same h q))
+  built d NoMemory line (inr b) = (b.finishes.0, λ h. inr (part b.hex b.map b.annotated b.texts b.finishes.1 h))
+  built d status line b = absurd b.finishes.0
 
-from_cond : (b : Bool) (x files : BuildFiles) → cond b (Some x) None ≡ Some files → (b ≡ true) × (x ≡ files)
-from_cond true x files e = (refl, cc)
-from_cond false x files e = absurd cc
+-- the source couldn't be read
+pub not_built : (files : BuildFiles) (s t : FilesState) (status : Status) (line : List ℕ) → (IsTrue s.known → SameFiles s t) → CannotRead (files.source ∷ []) s t status line → BuildMeans files s t status line
+not_built files s t NoFile line same c = (c.1 ∙ ap no_file (the_source c.2), λ h. (none (c.3 h), same h))
+  where
+    the_source : (c.0 ≡ files.source) ⊎ ⊥ → c.0 ≡ files.source
+    the_source (inl e) = e
+    the_source (inr e) = absurd e
 
--- a `build` names four different files
-build_differs : (words : List (List ℕ)) (files : BuildFiles) → build_of words ≡ Some files → HaveDifferentNames files
-build_differs [] files e = absurd cc
-build_differs (a ∷ []) files e = absurd cc
-build_differs (a ∷ b ∷ []) files e = absurd cc
-build_differs (a ∷ b ∷ c ∷ []) files e = absurd cc
-build_differs (a ∷ b ∷ c ∷ d ∷ []) files e = absurd cc
-build_differs (word ∷ source ∷ hex ∷ map ∷ annotated ∷ []) files e =
-    let f = from_cond (is_build word source hex map annotated) (record { source = source; hex = hex; map = map; annotated = annotated }) files e in
-    let p₁ = both (bytes_eq word (codes "build")) _ f.0 in
-    let p₂ = both (is_name source) _ p₁.1 in
-    let p₃ = both (is_name hex) _ p₂.1 in
-    let p₄ = both (is_name map) _ p₃.1 in
-    let p₅ = both (is_name annotated) _ p₄.1 in
-    subst HaveDifferentNames f.1 p₅.1
-build_differs (a ∷ b ∷ c ∷ d ∷ e' ∷ f ∷ words) files e = absurd cc
-
-named : (o : Option BuildFiles) (files : BuildFiles) → Some (Request.Builds files) ≡ option_map Request.Builds o → o ≡ Some files
-named None files e = absurd cc
-named (Some f) files e = cc
-
-pub request_differs : (words : List (List ℕ)) (files : BuildFiles) → Some (Request.Builds files) ≡ request_of words → HaveDifferentNames files
-request_differs words files e = build_differs words files (named (build_of words) files e)
+    none : ((c.0 ≡ files.source) × (s.file files.source ≡ None)) ⊎ (((bytes : List ℕ) × (s.file files.source ≡ Some bytes)) × ⊥) → s.file files.source ≡ None
+    none (inl m) = m.1
+    none (inr m) = absurd m.1
+not_built files s t FileFault line same c = (c.0, c.1, inl (the_source c.2, same))
+  where
+    the_source : (t.last_fault ≡ files.source) ⊎ ⊥ → t.last_fault ≡ files.source
+    the_source (inl e) = e
+    the_source (inr e) = absurd e
+not_built files s t NoMemory line same c = (c, λ h. inl (same h))
+not_built files s t status line same c = absurd c

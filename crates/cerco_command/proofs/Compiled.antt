@@ -1,5 +1,13 @@
 -- What a program of port writes is compiled to keeps the promise.
-use Rattle.std.proofs.Common.{◌≡◌, ℕ, List, [], ◌∷◌, ◌++◌, false, IsTrue, Result, Ok, Err, is_err, ap, ◌∙◌}
+use Rattle.std.proofs.Common.{◌≡◌, ℕ, zero, suc, ◌<◌, List, [], ◌∷◌, ◌++◌, map, false, IsTrue, Result, Ok, Err, is_err, sym, ap, subst, ◌∙◌, lit<, lit≤, arith, All, slice_index}
+use Rattle.std.proofs.lemmas.List.Elements.{All-head, All-tail}
+use Rattle.mcs51_isa.specs.declared.instr.Instr.TheVariants.{Return}
+use Rattle.mcs51_isa.specs.declared.instr.ReturnKind.TheVariants.{Ret}
+use Rattle.sim51.specs.Placed.{code_of_instrs}
+use Rattle.object_hex.specs.HexMeaning.{IsHexText}
+use Rattle.object_hex.specs.MapMeaning.{IsMapText}
+use Rattle.object_hex.proofs.HexBack.{hex_text-means}
+use Rattle.object_hex.proofs.MapBack.{map_text-means}
 use Rattle.std.specs.List.{flat_map}
 use Rattle.cerco_base.specs.States.{SinkState}
 use Rattle.cerco_base.specs.Calls.{PutsText}
@@ -9,12 +17,11 @@ use Rattle.clight_syntax.specs.Erasure.{erased, HasNoMarker}
 use Rattle.clight_syntax.specs.Numbers.{numbers}
 use Rattle.clight_syntax.specs.declared.points.Point.{Point}
 use Rattle.cerco_command.specs.PortPrograms.{IsPortProgram}
-use Rattle.cerco_command.specs.PortObjects.{code, labels, costs, points}
-use Rattle.cerco_command.specs.Building.{IsCompiled}
-use Rattle.cerco_command.specs.Stages.{AreTexts}
+use Rattle.cerco_command.specs.PortObjects.{write, code, labels, costs, points}
+use Rattle.cerco_command.specs.Building.{IsCompiled, AreCompiled}
 use Rattle.object_hex.specs.HexText.{hex_text}
 use Rattle.object_hex.specs.MapText.{map_text}
-use Rattle.cerco_command.proofs.PortBounds.{stands, has_no_marker}
+use Rattle.cerco_command.proofs.PortBounds.{stands, has_no_marker, code_fits}
 use Rattle.cerco_command.proofs.PortCosts.{cost_of_body}
 use Rattle.cerco_command.proofs.Promise.{headline_holds}
 
@@ -22,6 +29,43 @@ use Rattle.cerco_command.proofs.Promise.{headline_holds}
 pub collected : (s t : SinkState) (text : List ℕ) (r : Result (Unit {0}) IoFault) → IsTrue s.known → s.bytes ≡ [] → is_err r ≡ false → PutsText s t text r → t.bytes ≡ text
 collected s t text (Ok x) known none e puts = puts.whole known ∙ ap (λ l. l ++ text) none
 collected s t text (Err x) known none e puts = absurd cc
+
+-- each of these numbers is a byte
+abbrev IsBytes : List ℕ → Type 0
+IsBytes xs = (i : ℕ) → slice_index xs i < 256
+
+byte_more : (x : ℕ) (xs : List ℕ) → x < 256 → IsBytes xs → IsBytes (x ∷ xs)
+byte_more x xs small more zero = small
+byte_more x xs small more (suc i) = more i
+
+body_bytes : (values : List ℕ) → All (λ v. v < 256) values → IsBytes (code_of_instrs (map write values ++ Return Ret ∷ []))
+body_bytes [] all = byte_more 0x22 [] (lit< tt) (λ i. lit< tt)
+body_bytes (v ∷ values) all =
+    let rest = code_of_instrs (map write values ++ Return Ret ∷ []) in
+    byte_more 0x75 (0x90 ∷ v ∷ rest) (lit< tt)
+    (byte_more 0x90 (v ∷ rest) (lit< tt)
+    (byte_more v rest (All-head (λ x. x < 256) v values all) (body_bytes values (All-tail (λ x. x < 256) v values all))))
+
+code_bytes : (values : List ℕ) → All (λ v. v < 256) values → IsBytes (code values)
+code_bytes values all =
+    let r₈ : List ℕ = 0x00 ∷ code_of_instrs (map write values ++ Return Ret ∷ []) in
+    let r₇ : List ℕ = 0xFE ∷ r₈ in
+    let r₆ : List ℕ = 0x80 ∷ r₇ in
+    let r₅ : List ℕ = 0x08 ∷ r₆ in
+    let r₄ : List ℕ = 0x00 ∷ r₅ in
+    let r₃ : List ℕ = 0x12 ∷ r₄ in
+    let r₂ : List ℕ = 0x7F ∷ r₃ in
+    let r₁ : List ℕ = 0x81 ∷ r₂ in
+    byte_more 0x75 r₁ (lit< tt) (byte_more 0x81 r₂ (lit< tt) (byte_more 0x7F r₃ (lit< tt)
+    (byte_more 0x12 r₄ (lit< tt) (byte_more 0x00 r₅ (lit< tt) (byte_more 0x08 r₆ (lit< tt)
+    (byte_more 0x80 r₇ (lit< tt) (byte_more 0xFE r₈ (lit< tt) (byte_more 0x00 (code_of_instrs (map write values ++ Return Ret ∷ [])) (lit< tt) (body_bytes values all)))))))))
+
+-- the text of the one label
+labels_mean : IsMapText (map_text labels) labels
+labels_mean = map_text-means labels (lit≤ tt) small (λ i j before within. absurd (omega arith))
+  where
+    small : All (λ address. address < 65536) labels
+    small = grind arith
 
 pub compiled : (source values text : List ℕ) → IsPortProgram source values → erased text ≡ source → numbers text ≡ flat_map (λ (point : Point). numbers_of (costs values) point.piece) points → IsCompiled source (code values) labels text
 compiled source values text p erases said =
@@ -33,7 +77,7 @@ compiled source values text p erases said =
     }
 
 -- the texts that are made of a program are those of what it is compiled to
-pub texts_made : (source values hex map text object addresses labelled : List ℕ) (pts : List Point) (start : ℕ) → IsPortProgram source values → object ≡ code values → addresses ≡ labels → start ≡ (costs values).start → labelled ≡ (costs values).labels → pts ≡ points → hex ≡ hex_text object → map ≡ map_text addresses → text ≡ annotated source pts (record { start = start; labels = labelled }) → (HasNoMarker source → erased (annotated source pts (record { start = start; labels = labelled })) ≡ source) → (HasNoMarker source → numbers (annotated source pts (record { start = start; labels = labelled })) ≡ flat_map (λ (point : Point). numbers_of (record { start = start; labels = labelled }) point.piece) pts) → AreTexts source hex map text
+pub texts_made : (source values hex map text object addresses labelled : List ℕ) (pts : List Point) (start : ℕ) → IsPortProgram source values → object ≡ code values → addresses ≡ labels → start ≡ (costs values).start → labelled ≡ (costs values).labels → pts ≡ points → hex ≡ hex_text object → map ≡ map_text addresses → text ≡ annotated source pts (record { start = start; labels = labelled }) → (HasNoMarker source → erased (annotated source pts (record { start = start; labels = labelled })) ≡ source) → (HasNoMarker source → numbers (annotated source pts (record { start = start; labels = labelled })) ≡ flat_map (λ (point : Point). numbers_of (record { start = start; labels = labelled }) point.piece) pts) → AreCompiled source hex map text
 texts_made source values hex map text object addresses labelled pts start p object_is addresses_are start_is labelled_are points_are hex_is map_is text_is erases counts =
     let none = has_no_marker source values p in
     let said : numbers text ≡ flat_map (λ (point : Point). numbers_of (costs values) point.piece) points =
@@ -44,7 +88,7 @@ texts_made source values hex map text object addresses labelled pts start p obje
     record {
       code = code values;
       labels = labels;
+      is_code = subst (λ (x : List ℕ). IsHexText x (code values)) (sym (hex_is ∙ ap hex_text object_is)) (hex_text-means (code values) (code_fits source values p) (code_bytes values p.bytes));
+      are_labels = subst (λ (x : List ℕ). IsMapText x labels) (sym (map_is ∙ ap map_text addresses_are)) labels_mean;
       compiled = compiled source values text p (ap erased text_is ∙ erases none) said;
-      hex_is = hex_is ∙ ap hex_text object_is;
-      map_is = map_is ∙ ap map_text addresses_are;
     }

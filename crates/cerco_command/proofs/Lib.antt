@@ -5,5 +5,14 @@ mod PortCode
 mod PortBounds
 mod Promise
 mod Compiled
+mod Answering
+mod FilesRead
 mod Writing
 mod Built
+mod EventTexts
+mod RunSteps
+mod RunEnds
+mod RunOnce
+mod ListOnce
+mod Once
+mod ListSteps

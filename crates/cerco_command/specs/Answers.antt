@@ -1,10 +1,12 @@
 -- What the program answers, whatever the command: its status, what it puts to its output, and files that it writes one after
 -- the other. (The compiler's own.)
-use Rattle.std.specs.Prelude.{◌≡◌, ℕ, List, [], ◌∷◌, ◌⊎◌}
+use Rattle.std.specs.Prelude.{◌≡◌, ℕ, ◌<◌, List, [], ◌∷◌, ◌⊎◌, length}
+use Rattle.cerco_base.specs.Causes.{Rose}
 use Rattle.cerco_base.specs.States.{FilesState, SinkState, SameFiles, Puts}
-use Rattle.cerco_base.specs.Calls.{Keeps, Adds}
+use Rattle.cerco_base.specs.Calls.{Keeps, Adds, AddsPrefix}
 use Rattle.cerco_base.specs.WholeFiles.{PutsPrefix}
 use Rattle.cerco_command.specs.declared.status.Status.{Status}
+use Rattle.cerco_command.specs.declared.status.Status.TheVariants.{OutFault, NoMemory}
 use Rattle.cerco_command.specs.Status.{code_of}
 
 -- a name and the text that is to stand under it
@@ -23,11 +25,27 @@ ArePartlyWritten [] s t = SameFiles s t
 ArePartlyWritten (file ∷ files) s t =
     SameFiles s t ⊎ PutsPrefix s t file.0 file.1 ⊎ ((u : FilesState) × Puts s u file.0 file.1 × ArePartlyWritten files u t)
 
--- The program ends with a status that was meant, having put the text that was meant with it.
-pub record Answers (Means : Status → List ℕ → Type 0) (o p : SinkState) (code : ℕ) : Type 0 where
-  pub status : Status
-  pub text : List ℕ
-  pub ends : code ≡ code_of status
-  pub means : Means status text
+-- The status of a text that couldn't be put whole: the output's count of faults rose, or there was no memory. Neither comes for an
+-- empty text.
+abbrev pub FellShort : SinkState → SinkState → List ℕ → Status → Type 0
+FellShort o p text OutFault = Rose o.faults p.faults × (0 < length text)
+FellShort o p text NoMemory = 0 < length text
+FellShort o p text status = ⊥
+
+-- A status was meant with a text: the text is put and this is the status, or a prefix of the text is put and the status says why.
+pub record Says (o p : SinkState) (meant : Status) (text : List ℕ) (status : Status) : Type 0 where
   pub keeps : Keeps o p
-  pub puts : Adds o p text
+  pub puts : ((status ≡ meant) × Adds o p text) ⊎ (FellShort o p text status × AddsPrefix o p text)
+
+-- the same for a status and a text that a command may mean
+pub record Answers (Means : Status → List ℕ → Type 0) (o p : SinkState) (status : Status) : Type 0 where
+  pub meant : Status
+  pub text : List ℕ
+  pub means : Means meant text
+  pub says : Says o p meant text status
+
+-- the program ends so, with the number of the status
+pub record EndsWith (Means : Status → List ℕ → Type 0) (o p : SinkState) (code : ℕ) : Type 0 where
+  pub status : Status
+  pub ends : code ≡ code_of status
+  pub answers : Answers Means o p status

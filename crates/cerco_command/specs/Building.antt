@@ -6,14 +6,15 @@ use Rattle.cerco_base.specs.States.{FilesState, SameFiles}
 use Rattle.cerco_base.specs.Headline.{Headline}
 use Rattle.clight_syntax.specs.Erasure.{erased}
 use Rattle.clight_syntax.specs.Numbers.{cost_at}
-use Rattle.object_hex.specs.HexText.{hex_text}
-use Rattle.object_hex.specs.MapText.{map_text}
+use Rattle.object_hex.specs.HexMeaning.{IsHexText}
+use Rattle.object_hex.specs.MapMeaning.{IsMapText}
 use Rattle.sim51.specs.Runs.{object, cycles_of_run}
 use Rattle.cerco_command.specs.Words.{BuildFiles}
 use Rattle.cerco_command.specs.PortPrograms.{IsPortProgram, IsNoPortProgram, meaning}
 use Rattle.cerco_command.specs.Answers.{NamedText, ArePartlyWritten}
+use Rattle.cerco_command.specs.Messages.{no_file, unsupported, file_fault}
 use Rattle.cerco_command.specs.declared.status.Status.{Status}
-use Rattle.cerco_command.specs.declared.status.Status.TheVariants.{Done, NoFile, Usage, Refused, FileFault, NoMemory}
+use Rattle.cerco_command.specs.declared.status.Status.TheVariants.{Done, NoFile, Refused, FileFault, NoMemory}
 
 -- The headline. The source is a program, and the object does what the program means: for every port script and number n, after
 -- exactly as many cycles as the cost variable of the annotated source holds at its n-th stop, it has made exactly the labels,
@@ -25,32 +26,40 @@ pub record IsCompiled (source code labels annotated : List ℕ) : Type 0 where
   pub headline : Headline (meaning values) (object code labels) cycles_of_run (cost_at annotated)
   pub erases : erased annotated ≡ source
 
--- the files that are written, in this order
-abbrev pub outputs : BuildFiles → List ℕ → List ℕ → List ℕ → List NamedText
-outputs files code labels annotated = (files.hex, hex_text code) ∷ (files.map, map_text labels) ∷ (files.annotated, annotated) ∷ []
-
--- The source is compiled, the three outputs hold what it is compiled to, and every other name is as it was.
-pub record Builds (files : BuildFiles) (s t : FilesState) : Type 0 where
-  pub source : List ℕ
+-- The texts of an object to which the source is compiled: its code, the addresses of its labels, and the annotated source.
+pub record AreCompiled (source hex map annotated : List ℕ) : Type 0 where
   pub code : List ℕ
   pub labels : List ℕ
+  pub is_code : IsHexText hex code
+  pub are_labels : IsMapText map labels
+  pub compiled : IsCompiled source code labels annotated
+
+-- the files that are written, in this order
+abbrev pub outputs : BuildFiles → List ℕ → List ℕ → List ℕ → List NamedText
+outputs files hex map annotated = (files.hex, hex) ∷ (files.map, map) ∷ (files.annotated, annotated) ∷ []
+
+-- The source is compiled, the three outputs hold the texts of what it is compiled to, and every other name is as it was.
+pub record Builds (files : BuildFiles) (s t : FilesState) : Type 0 where
+  pub source : List ℕ
+  pub hex : List ℕ
+  pub map : List ℕ
   pub annotated : List ℕ
   pub read : s.file files.source ≡ Some source
-  pub compiled : IsCompiled source code labels annotated
-  pub hex_written : t.file files.hex ≡ Some (hex_text code)
-  pub map_written : t.file files.map ≡ Some (map_text labels)
+  pub texts : AreCompiled source hex map annotated
+  pub hex_written : t.file files.hex ≡ Some hex
+  pub map_written : t.file files.map ≡ Some map
   pub annotated_written : t.file files.annotated ≡ Some annotated
   pub others : (q : List ℕ) → bytes_eq files.hex q ≡ false → bytes_eq files.map q ≡ false → bytes_eq files.annotated q ≡ false → t.file q ≡ s.file q
 
--- The source is compiled, and what it is compiled to is written in part.
+-- The source is compiled, and the texts of what it is compiled to are written in part.
 pub record PartlyBuilds (files : BuildFiles) (s t : FilesState) : Type 0 where
   pub source : List ℕ
-  pub code : List ℕ
-  pub labels : List ℕ
+  pub hex : List ℕ
+  pub map : List ℕ
   pub annotated : List ℕ
   pub read : s.file files.source ≡ Some source
-  pub compiled : IsCompiled source code labels annotated
-  pub written : ArePartlyWritten (outputs files code labels annotated) s t
+  pub texts : AreCompiled source hex map annotated
+  pub written : ArePartlyWritten (outputs files hex map annotated) s t
 
 -- the source is no program
 pub record Refuses (files : BuildFiles) (s t : FilesState) : Type 0 where
@@ -69,11 +78,11 @@ Faults files s t =
     ((t.last_fault ≡ files.source) × (IsTrue s.known → SameFiles s t))
     ⊎ (IsOutput files t.last_fault × (IsTrue s.known → PartlyBuilds files s t))
 
--- What each status of `build` means, for files whose contents are known; it puts nothing to the output.
+-- What each status of `build` means, for files whose contents are known, and what is put with it.
 abbrev pub BuildMeans : BuildFiles → FilesState → FilesState → Status → List ℕ → Type 0
 BuildMeans files s t Done line = (line ≡ []) × (IsTrue s.known → Builds files s t)
-BuildMeans files s t NoFile line = (line ≡ []) × (IsTrue s.known → (s.file files.source ≡ None) × SameFiles s t)
-BuildMeans files s t Usage line = ⊥
-BuildMeans files s t Refused line = (line ≡ []) × (IsTrue s.known → Refuses files s t)
-BuildMeans files s t FileFault line = (line ≡ []) × Rose s.faults t.faults × Faults files s t
+BuildMeans files s t NoFile line = (line ≡ no_file files.source) × (IsTrue s.known → (s.file files.source ≡ None) × SameFiles s t)
+BuildMeans files s t Refused line = (line ≡ unsupported) × (IsTrue s.known → Refuses files s t)
+BuildMeans files s t FileFault line = (line ≡ file_fault t.last_fault) × Rose s.faults t.faults × Faults files s t
 BuildMeans files s t NoMemory line = (line ≡ []) × (IsTrue s.known → SameFiles s t ⊎ PartlyBuilds files s t)
+BuildMeans files s t status line = ⊥

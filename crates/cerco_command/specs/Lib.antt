@@ -1,8 +1,13 @@
 pub mod Words
 pub mod Status
+pub mod Messages
 pub mod PortPrograms
 pub mod PortObjects
 pub mod Answers
+pub mod Inputs
 pub mod Building
+pub mod Running
+pub mod Disassembly
 pub mod Stages
 pub mod Top
+pub mod Once

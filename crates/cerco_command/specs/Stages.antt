@@ -1,71 +1,95 @@
--- The stages of `build`: reading the source, compiling it, and writing the outputs. (The compiler's own.)
-use Rattle.std.specs.Prelude.{◌≡◌, ℕ, ◌≤◌, List, [], ◌∷◌, Result, OnOk, OnErr, IfErr, IsTrue, Some, None, take, ◌⊎◌}
+-- The stages of the commands: what a reply is, how `build` compiles a source and writes the outputs, and how a text is put by
+-- pieces. (The compiler's own.)
+use Rattle.std.specs.Prelude.{◌≡◌, ℕ, ◌+◌, ◌<◌, length, ◌≤◌, List, [], ◌∷◌, ◌++◌, Option, Some, None, Result, OnOk, OnErr, IfErr, IsTrue, string_bytes, ◌⊎◌}
 use Rattle.cerco_base.specs.Causes.{Rose}
-use Rattle.cerco_base.specs.States.{FilesState, SameFiles}
-use Rattle.cerco_base.specs.declared.faults.IoFault.{IoFault}
-use Rattle.cerco_base.specs.declared.faults.IoFault.TheVariants as Io
-use Rattle.object_hex.specs.HexText.{hex_text}
-use Rattle.object_hex.specs.MapText.{map_text}
+use Rattle.cerco_base.specs.States.{FilesState, SinkState, SameFiles}
+use Rattle.cerco_base.specs.Calls.{Keeps, Adds}
+use Rattle.mcs51_isa.specs.declared.instr.Instr.{Instr}
+use Rattle.mcs51_isa.specs.Table.{encode_of}
+use Rattle.mcs51_isa.specs.Listing.{line_of}
+use Rattle.sim51.specs.declared.events.Events.{Events}
+use Rattle.sim51.specs.State.{State}
+use Rattle.sim51.specs.Step.{Moved, Goes, step}
+use Rattle.sim51.specs.Places.{LoadedMachine}
+use Rattle.sim51.specs.Runs.{events_of}
 use Rattle.cerco_command.specs.Words.{BuildFiles}
 use Rattle.cerco_command.specs.PortPrograms.{IsNoPortProgram}
 use Rattle.cerco_command.specs.Answers.{NamedText, AreWritten, ArePartlyWritten}
-use Rattle.cerco_command.specs.Building.{IsCompiled}
+use Rattle.cerco_command.specs.Building.{AreCompiled, outputs}
+use Rattle.cerco_command.specs.Messages.{unsupported, file_fault, event_lines, reserved_line}
+use Rattle.cerco_command.specs.Running.{Stops}
+use Rattle.cerco_command.specs.Disassembly.{listed_at}
+use Rattle.cerco_command.specs.declared.reply.Reply.{Reply}
 use Rattle.cerco_command.specs.declared.status.Status.{Status}
-use Rattle.cerco_command.specs.declared.status.Status.TheVariants.{Done, NoFile, Refused, FileFault, NoMemory}
+use Rattle.cerco_command.specs.declared.status.Status.TheVariants.{Done, Refused, FileFault, NoMemory}
 
--- the bytes under a name, or the first 65,536 of them
-abbrev pub IsRead : FilesState → List ℕ → List ℕ → Type 0
-IsRead s name text = (all : List ℕ) × (s.file name ≡ Some all) × (text ≡ take 65536 all)
-
--- why the source couldn't be read
-abbrev pub NotRead : List ℕ → FilesState → FilesState → Status → Type 0
-NotRead name s t NoFile = IsTrue s.known → s.file name ≡ None
-NotRead name s t FileFault = Rose s.faults t.faults × (t.last_fault ≡ name)
-NotRead name s t NoMemory = Unit {0}
-NotRead name s t status = ⊥
-
--- the texts of the outputs are those of what the source is compiled to
-pub record AreTexts (source hex map annotated : List ℕ) : Type 0 where
-  pub code : List ℕ
-  pub labels : List ℕ
-  pub compiled : IsCompiled source code labels annotated
-  pub hex_is : hex ≡ hex_text code
-  pub map_is : map ≡ map_text labels
-
--- the outputs with their texts, in the order in which they are written
-abbrev pub named_texts : BuildFiles → List ℕ → List ℕ → List ℕ → List NamedText
-named_texts files hex map annotated = (files.hex, hex) ∷ (files.map, map) ∷ (files.annotated, annotated) ∷ []
+-- a reply with this status and line, or want of memory
+abbrev pub Replies : Status → List ℕ → Status → List ℕ → Type 0
+Replies meant text status line = ((status ≡ meant) × (line ≡ text)) ⊎ ((status ≡ NoMemory) × (line ≡ []))
 
 -- one of the names of these texts
 abbrev pub IsNameOf : List ℕ → List NamedText → Type 0
 IsNameOf name [] = ⊥
 IsNameOf name (file ∷ files) = (name ≡ file.0) ⊎ IsNameOf name files
 
--- Texts are written in their order: all of them, or some of them and a fault at one of their names.
-pub record WritesAll (texts : List NamedText) (s t : FilesState) (result : Result (Unit {0}) IoFault) : Type 0 where
+-- texts couldn't be written: a call at one of them failed, or there was no memory
+abbrev pub CannotWrite : List NamedText → FilesState → FilesState → Status → List ℕ → Type 0
+CannotWrite texts s t FileFault line = (line ≡ file_fault t.last_fault) × Rose s.faults t.faults × IsNameOf t.last_fault texts
+CannotWrite texts s t NoMemory line = line ≡ []
+CannotWrite texts s t status line = ⊥
+
+-- Texts are written in their order: all of them, or some of them.
+pub record WritesAll (texts : List NamedText) (s t : FilesState) (result : Result (Unit {0}) Reply) : Type 0 where
   pub later : s.faults ≤ t.faults
+  pub stays_known : IsTrue s.known → IsTrue t.known
   pub whole : IsTrue s.known → OnOk result (AreWritten texts s t)
   pub some : IsTrue s.known → OnErr result (ArePartlyWritten texts s t)
-  pub rose : IfErr result (λ fault. fault ≡ Io.Failed → Rose s.faults t.faults)
-  pub named : IfErr result (λ fault. fault ≡ Io.Failed → IsNameOf t.last_fault texts)
+  pub failed : IfErr result (λ reply. CannotWrite texts s t reply.status (string_bytes reply.line))
 
 -- what the status means once the texts are to be written
-abbrev pub Finishes : List NamedText → FilesState → FilesState → Status → Type 0
-Finishes texts s t Done = IsTrue s.known → AreWritten texts s t
-Finishes texts s t FileFault = Rose s.faults t.faults × IsNameOf t.last_fault texts × (IsTrue s.known → ArePartlyWritten texts s t)
-Finishes texts s t NoMemory = IsTrue s.known → ArePartlyWritten texts s t
-Finishes texts s t status = ⊥
+abbrev pub Finishes : List NamedText → FilesState → FilesState → Status → List ℕ → Type 0
+Finishes texts s t Done line = (line ≡ []) × (IsTrue s.known → AreWritten texts s t)
+Finishes texts s t status line = CannotWrite texts s t status line × (IsTrue s.known → ArePartlyWritten texts s t)
 
 -- the texts of the source are made, and written or not
-pub record Makes (files : BuildFiles) (source : List ℕ) (s t : FilesState) (status : Status) : Type 0 where
+pub record Makes (files : BuildFiles) (source : List ℕ) (s t : FilesState) (status : Status) (line : List ℕ) : Type 0 where
   pub hex : List ℕ
   pub map : List ℕ
   pub annotated : List ℕ
-  pub texts : AreTexts source hex map annotated
-  pub finishes : Finishes (named_texts files hex map annotated) s t status
+  pub texts : AreCompiled source hex map annotated
+  pub finishes : Finishes (outputs files hex map annotated) s t status line
 
 -- what the status means once the source is read
-abbrev pub BuildsOn : BuildFiles → List ℕ → FilesState → FilesState → Status → Type 0
-BuildsOn files source s t Refused = IsNoPortProgram source × (IsTrue s.known → SameFiles s t)
-BuildsOn files source s t NoMemory = (IsTrue s.known → SameFiles s t) ⊎ Makes files source s t NoMemory
-BuildsOn files source s t status = Makes files source s t status
+abbrev pub BuildsOn : BuildFiles → List ℕ → FilesState → FilesState → Status → List ℕ → Type 0
+BuildsOn files source s t Refused line = (line ≡ unsupported) × IsNoPortProgram source × (IsTrue s.known → SameFiles s t)
+BuildsOn files source s t NoMemory line = ((line ≡ []) × (IsTrue s.known → SameFiles s t)) ⊎ Makes files source s t NoMemory line
+BuildsOn files source s t status line = Makes files source s t status line
+
+-- of a pending text a front is put, and the rest is pending
+pub record PutsFront (o p : SinkState) (before after : List ℕ) : Type 0 where
+  pub keeps : Keeps o p
+  pub front : List ℕ
+  pub whole : front ++ after ≡ before
+  pub added : Adds o p front
+
+-- what one step of a run adds to the pending text: the lines of its events where the machine goes on, or the last line
+abbrev pub Prints : ℕ → State → State → Moved → Option Status → List ℕ → Type 0
+Prints limit s t moved None lines = (events : Events) × (moved ≡ Goes events t) × (s.cycles < limit) × (lines ≡ event_lines s.cycles (events_of events))
+Prints limit s t moved (Some status) lines = Stops limit s moved status lines
+
+-- one step of a run adds its lines to the pending text
+pub record StepPrinted (limit : ℕ) (now next : LoadedMachine) (before after : List ℕ) (stop : Option Status) : Type 0 where
+  pub lines : List ℕ
+  pub added : after ≡ before ++ lines
+  pub prints : Prints limit now.state next.state (step now.code now.labels now.state) stop lines
+
+-- what the line of an address is, and where the next instruction stands: none where the reserved opcode stands there
+abbrev pub LineOf : List ℕ → ℕ → Option ℕ → List ℕ → Type 0
+LineOf code address None line = (listed_at code address ≡ None) × (line ≡ reserved_line address)
+LineOf code address (Some next) line = (i : Instr) × (listed_at code address ≡ Some i) × (next ≡ address + length (encode_of i)) × (line ≡ line_of address i)
+
+-- the line of an address is added to the pending text
+pub record LineListed (code : List ℕ) (address : ℕ) (next : Option ℕ) (before after : List ℕ) : Type 0 where
+  pub line : List ℕ
+  pub added : after ≡ before ++ line
+  pub is : LineOf code address next line

@@ -1,6 +1,8 @@
 //! How the program ends.
 ghost use Rattle.std.specs.Prelude.{◌≡◌};
 
+use cerco_base::IoFault;
+
 /// The exit status of the program.
 #[derive(Clone, Copy, Debug, PartialEq, Eq)]
 pub enum Status {
@@ -14,12 +16,28 @@ pub enum Status {
     Refused,
     /// 4: a call of the files failed.
     FileFault,
+    /// 5: a call of the output failed.
+    OutFault,
+    /// 6: a file is too long, or isn't a text of an object.
+    BadInput,
+    /// 8: the reserved opcode is met.
+    Reserved,
     /// 9: there was no memory.
     NoMemory,
 }
 
 impl Status {
-    ghost use Rattle.cerco_command.specs.Status.{code_of};
+    ghost use Rattle.cerco_command.specs.Status.{code_of, status_of};
+
+    /// That of a fault of the output.
+    pub fn of_fault(fault: IoFault) -> Status
+        ensures { result ≡ status_of fault }
+    {
+        match fault {
+            IoFault::Failed => Status::OutFault,
+            IoFault::OutOfMemory => Status::NoMemory,
+        }
+    }
 
     /// Its number, which the program ends with.
     pub fn code(self) -> u8
@@ -31,6 +49,9 @@ impl Status {
             Status::Usage => 2,
             Status::Refused => 3,
             Status::FileFault => 4,
+            Status::OutFault => 5,
+            Status::BadInput => 6,
+            Status::Reserved => 8,
             Status::NoMemory => 9,
         }
     }

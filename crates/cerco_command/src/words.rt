@@ -1,10 +1,14 @@
 //! The words of the command line.
-ghost use Rattle.std.specs.Prelude.{◌≡◌, IfOk, IfErr, None, Some, string_bytes, map, option_map};
-ghost use Rattle.cerco_command.specs.Words.{is_name, all_differ, is_build, build_of, request_of, request_in, files_of, NamesDiffer};
-ghost use Rattle.cerco_command.specs.declared.words.WordsFault.TheVariants.{Usage};
+ghost use Rattle.std.specs.Prelude.{◌≡◌, ◌≢◌, ℕ, ◌≤◌, IfOk, IfErr, None, Some, MatchOption, string_bytes, map, option_map, decimal};
+ghost use Rattle.cerco_command.specs.Words.{is_name, all_differ, is_build, has_run_names, build_of, run_of, list_of, request_of, request_in, files_of, run_of_words, IsWellFormed};
+ghost use Rattle.cerco_command.specs.declared.words.WordsFault.TheVariants.{Usage, OutOfMemory};
 
+use itoa::Buffer;
 use std::alloc::{AllocError, Global};
 use thiserror::Error;
+
+/// The most machine cycles after which `run` can be asked to stop.
+const MOST_CYCLES: u32 = 1_000_000_000;
 
 /// The names of the files of `build`.
 #[derive(Drop)]
@@ -19,11 +23,28 @@ pub struct BuildNames {
     pub annotated: String,
 }
 
+/// The names of the files of `run`, which reads them, and where it stops.
+#[derive(Drop)]
+pub struct RunWords {
+    /// The object, in Intel HEX.
+    pub hex: String,
+    /// The addresses of the labels.
+    pub map: String,
+    /// The bytes that the pins of ports show, one for each reading.
+    pub script: String,
+    /// After how many machine cycles it stops, at most 1,000,000,000.
+    pub limit: u32,
+}
+
 /// A command of the program.
 #[derive(Drop)]
 pub enum Command {
     /// Compiles a source.
     Build(BuildNames),
+    /// Prints the events of an object's run.
+    Run(RunWords),
+    /// Prints the instructions of an object, which has this name.
+    List(String),
 }
 
 /// Why words aren't read as a command.
@@ -35,6 +56,14 @@ pub enum WordsFault {
     /// There was no memory for them.
     #[error("out of memory")]
     OutOfMemory,
+}
+
+impl From<AllocError> for WordsFault {
+    ghost from_gives = { λ _ fault. fault ≡ OutOfMemory };
+
+    fn from(_: AllocError) -> Self {
+        WordsFault::OutOfMemory
+    }
 }
 
 fn is_name(word: &str) -> bool
@@ -81,15 +110,73 @@ fn read_build(alloc: Global, words: &[String]) -> Result<Option<BuildNames>, All
     }))
 }
 
+// The number of cycles that a word writes in decimal, without a leading zero.
+fn read_limit(word: &str) -> Option<u32>
+    ensures { MatchOption result ((n : ℕ) → n ≤ 1000000000 → word.now ≢ decimal n) (λ n. (n ≤ 1000000000) × (word.now ≡ decimal n)) }
+{
+    let Ok(limit) = word.parse::<u32>() else {
+        return None;
+    };
+    if Buffer::new().format(limit) != word || limit > MOST_CYCLES {
+        return None;
+    }
+    Some(limit)
+}
+
+fn has_run_names(word: &str, hex: &str, map: &str, script: &str) -> bool
+    ensures { result ≡ has_run_names word.now hex.now map.now script.now }
+{
+    word == "run" && is_name(hex) && is_name(map) && is_name(script)
+}
+
+// The words of a `run`, none where they are none.
+fn read_run(alloc: Global, words: &[String]) -> Result<Option<RunWords>, AllocError>
+    ensures { IfOk result (λ read. option_map run_of_words read ≡ run_of (map string_bytes words.now)) }
+{
+    let [word, hex, map, script, limit] = words else {
+        return Ok(None);
+    };
+    let Some(limit) = read_limit(limit) else {
+        return Ok(None);
+    };
+    if !has_run_names(word, hex, map, script) {
+        return Ok(None);
+    }
+    Ok(Some(RunWords {
+        hex: String::from_str(alloc, hex)?,
+        map: String::from_str(alloc, map)?,
+        script: String::from_str(alloc, script)?,
+        limit,
+    }))
+}
+
+// The name of a `list`, none where the words are none.
+fn read_list(alloc: Global, words: &[String]) -> Result<Option<String>, AllocError>
+    ensures { IfOk result (λ name. option_map string_bytes name ≡ list_of (map string_bytes words.now)) }
+{
+    let [word, hex] = words else {
+        return Ok(None);
+    };
+    if word.as_str() != "list" || !is_name(hex) {
+        return Ok(None);
+    }
+    Ok(Some(String::from_str(alloc, hex)?))
+}
+
 /// The command that the words after the program's name are.
 pub fn read_words(alloc: Global, words: &[String]) -> Result<Command, WordsFault>
     ensures command { IfOk result (λ command. Some (request_in command) ≡ request_of (map string_bytes words.now)) }
-    ensures names { IfOk result (λ command. NamesDiffer (request_in command)) }
+    ensures well_formed { IfOk result (λ command. IsWellFormed (request_in command)) }
     ensures usage { IfErr result (λ fault. fault ≡ Usage → request_of (map string_bytes words.now) ≡ None) }
 {
-    match read_build(alloc, words) {
-        Ok(Some(names)) => Ok(Command::Build(names)),
-        Ok(None) => Err(WordsFault::Usage),
-        Err(_) => Err(WordsFault::OutOfMemory),
+    if let Some(names) = read_build(alloc, words)? {
+        return Ok(Command::Build(names));
     }
+    if let Some(words) = read_run(alloc, words)? {
+        return Ok(Command::Run(words));
+    }
+    if let Some(hex) = read_list(alloc, words)? {
+        return Ok(Command::List(hex));
+    }
+    Err(WordsFault::Usage)
 }

@@ -8,7 +8,6 @@ use Rattle.clight_syntax.specs.TypedViews.{stmt_of, row_onto, stmts_onto, stmts_
 use mathlib.Core.Former.{Count}
 
 abbrev row_of : {L : Type 0} → Stmt L → (n : Count) × Row_of-Stmt L n
-
 row_of (Block' left shape row right) = (_, row)
 row_of _ = (_, end_of-Stmt)
 

@@ -1,10 +1,16 @@
 pub mod Annotations
+pub mod Constants
 pub mod Depth
 pub mod Erasure
+pub mod Labelling
+pub mod Lexemes
 pub mod Numbers
 pub mod Spelling
+pub mod Symbols
+pub mod Tokens
 pub mod Trees
-pub mod Types
+pub mod TypedSpans
 pub mod TypedTrees
 pub mod TypedViews
+pub mod Types
 pub mod Views

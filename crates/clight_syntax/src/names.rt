@@ -1,5 +1,5 @@
 //! The identifiers of a source.
-ghost use Rattle.std.specs.Prelude.{◌≡◌, ◌++◌, ◌∷◌, [], length, OnOk, OnErr};
+ghost use Rattle.std.specs.Prelude.{◌≡◌, ◌++◌, ◌∷◌, [], length, IfOk, OnOk, OnErr};
 
 use cerco_base::NoMemory;
 use std::alloc::Global;
@@ -41,6 +41,17 @@ impl Names {
         own.extend_from_slice(spelling)?;
         self.spellings.push(own)?;
         Ok(())
+    }
+
+    /// A copy of the list.
+    pub fn duplicate(&self) -> Result<Names, NoMemory>
+        ensures { IfOk result (λ copy. copy ≡ self.now) }
+    {
+        let mut copy = Names::new(self.alloc);
+        for spelling in &self.spellings {
+            copy.push(spelling.as_slice())?;
+        }
+        Ok(copy)
     }
 
     /// How many there are.

@@ -5,13 +5,32 @@ use cerco_base::{Label, NoMemory};
 use std::alloc::Global;
 use std::marker::Model;
 
-/// An annotation of the source.
+/// An annotation of the source. Its text is C (ISO/IEC 9899:1999); with those of the whole source it adds the cost of each
+/// label to the cost variable where the label is passed.
 #[derive(Clone, Copy, Debug, PartialEq, Eq)]
 pub enum Piece {
-    /// Declares the cost variable with the cost of the program's start.
+    /// `unsigned long __cost=S;` at the start of the text, with the cost S of the program's start.
     Start,
-    /// Adds the cost of a label to the cost variable.
+    /// `__cost+=C;` behind the `{` of a function's body, and behind a call or a `do`.
     After(Label),
+    /// `{__cost+=C;` before an arm of `if` and before the body of `while` or `for`.
+    ArmOpen(Label),
+    /// `}` behind each arm of an `if` with `else`.
+    ArmClose,
+    /// `}else{__cost+=C;}` behind the arm of an `if` without `else`, with the cost of the missing arm.
+    ThenClose(Label),
+    /// `}__cost+=C;` behind the body of `while` or `for`, with the cost behind the loop.
+    BodyClose(Label),
+    /// `{` before the body of `do`.
+    DoOpen,
+    /// `}` behind the body of `do`.
+    DoClose,
+    /// `((` before the left operand of `&&` or `||`, and before the condition of `do`.
+    CondOpen,
+    /// `)?(__cost+=T,1):(__cost+=F,0))` behind that left operand, with the costs where it is true and where it is false.
+    CondBoth(Label, Label),
+    /// `)?(__cost+=C,1):0)` behind the condition of `do`, with the cost of the way back to the body.
+    CondRepeat(Label),
 }
 
 /// A place in a source at which an annotation stands.

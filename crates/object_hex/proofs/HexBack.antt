@@ -284,7 +284,7 @@ rest_means code (suc count) from ls to at enough few small fit gives open_yet =
         record { kind_fits = omega arith; offset_fits = small; few = omega arith; all_fit = λ k. fit_part code (16 * from) k fit }
 
 -- what was written for a code is a hex text of it
-hex_text-means : (code : List ℕ) → length code ≤ 65536 → IsBytes code → IsHexText (hex_text code) code
+pub hex_text-means : (code : List ℕ) → length code ≤ 65536 → IsBytes code → IsHexText (hex_text code) code
 unfolding given highest_end has_end
 hex_text-means code small fit =
     let n = div_ceil (length code) 16 in

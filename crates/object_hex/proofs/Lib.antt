@@ -1,12 +1,12 @@
 mod Raised
-mod HexBack
-mod HexWalk
+pub mod HexBack
+pub mod HexWalk
 mod Lines
 mod Loops
 mod Addresses
 mod Behind
-mod MapBack
-mod Maps
+pub mod MapBack
+pub mod Maps
 mod Places
 mod RecordForm
 mod Splits

@@ -90,7 +90,7 @@ lines-written label (address ∷ more) few small =
     ∙ lines-plain (body label address) rest (Plain-body label address (omega arith) (small 0 0 (omega arith)))
     ∙ ap (λ others. body label address ∷ others) (lines-written (label + 1) more (omega arith) (λ k d within. small (suc k) d (omega arith)))
 
-map_text-means : (addresses : List ℕ) → length addresses ≤ 65536 → All (λ address. address < 65536) addresses → AreDistinct addresses → IsMapText (map_text addresses) addresses
+pub map_text-means : (addresses : List ℕ) → length addresses ≤ 65536 → All (λ address. address < 65536) addresses → AreDistinct addresses → IsMapText (map_text addresses) addresses
 map_text-means addresses few small apart =
     let Given : List (List ℕ) → Type 0 = λ ls. IsMapOf ls addresses in
     subst Given (sym (lines-written 0 addresses (omega arith) small)) (record {

@@ -83,6 +83,7 @@ impl HexReader {
 pub fn read_hex(alloc: Global, text: &[u8]) -> Result<Code, HexError>
     requires { length text.now ≤ 4294967294 }
     ensures answer { IsHexAnswer text.now result }
+    ensures short { IfOk result (λ code. length code ≤ 65536) }
     ensures written { ReadsBack text.now result }
 {
     let mut reader = HexReader::new(alloc)?;

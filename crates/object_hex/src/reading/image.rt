@@ -92,7 +92,8 @@ impl Image {
 
     /// The code up to the highest byte given, with 0 where no byte is given.
     pub fn code(&self, alloc: Global) -> Result<Code, NoMemory>
-        ensures { IfOk result (λ code. code ≡ map (λ place. unwrap_or place 0) (take self.now.reach self.now.places.items)) }
+        ensures code { IfOk result (λ code. code ≡ map (λ place. unwrap_or place 0) (take self.now.reach self.now.places.items)) }
+        ensures short { IfOk result (λ code. length code ≤ 65536) }
     {
         let mut code = Code::new(alloc);
         for place in &self.places[..self.reach] {

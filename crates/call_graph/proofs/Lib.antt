@@ -1,0 +1,11 @@
+pub mod Entries
+pub mod Paths
+pub mod OrderPaths
+pub mod WalkSteps
+pub mod Turns
+pub mod SearchSteps
+pub mod Added
+pub mod Opposite
+pub mod SumSteps
+pub mod Consequences
+pub mod Examples

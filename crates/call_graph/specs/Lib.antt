@@ -1,0 +1,5 @@
+pub mod CallPaths
+pub mod Nodes
+pub mod Walks
+pub mod Searches
+pub mod Largest

@@ -1,0 +1,7 @@
+use Rattle.std.proofs.Common.{map, string_bytes}
+use Rattle.cerco_command.specs.Words.{request_of}
+use Rattle.cerco_command.proofs.Once.{means_once}
+use Rattle.cerco_command.proofs.cerco.Goals as goal
+
+pub returns-clause-once : goal.returns-clause-once
+returns-clause-once g c = means_once (request_of (map string_bytes c.args.words.now))

@@ -1,0 +1,16 @@
+use Rattle.cerco_command.proofs.FilesRead.{read_from, same_on}
+use Rattle.cerco_command.proofs.running.read_inputs.Goals as goal
+
+pub returns-clause-read : goal.returns-clause-read
+returns-clause-read g c = λ h.
+    let s = g.F.Files.state c.args.files.now in
+    let t = g.F.Files.state c.read_input.new.files in
+    let u = g.F.Files.state c.read_input-2.new.files in
+    let known = c.read_input.ensures.known h in
+    let first = c.read_input.ensures.same h in
+    let second = same_on s t u first (c.read_input-2.ensures.same known) in
+    record {
+      hex_read = rw (← c.deref.ensures) (c.in_ok-hex.ensures.read h);
+      map_read = rw (← c.deref-2.ensures) (read_from 16777217 s t _ _ first (c.in_ok-map.ensures.read known));
+      script_read = rw (← c.deref-3.ensures) (read_from 16777217 s u _ _ second (c.in_ok-script.ensures.read (c.read_input-2.ensures.known known)));
+    }

@@ -1,0 +1,86 @@
+-- The lines that the program prints. (The compiler's own.) Each ends with a line feed; numbers are decimal, addresses four
+-- hexadecimal digits in upper case.
+use Rattle.std.specs.Prelude.{ℕ, List, [], ◌++◌, Option, Some, None, codes, decimal}
+use Rattle.std.specs.List.{flat_map}
+use Rattle.cerco_base.specs.declared.events.Port.{Port}
+use Rattle.cerco_base.specs.declared.events.Event.{Event}
+use Rattle.cerco_base.specs.declared.events.Event.TheVariants.{Label, Read, Write}
+use Rattle.mcs51_isa.specs.Listing.{hex_word}
+use Rattle.object_hex.specs.declared.reading.faults.HexFault.{HexFault}
+use Rattle.object_hex.specs.declared.reading.faults.HexKind.{HexKind}
+use Rattle.object_hex.specs.declared.reading.faults.HexKind.TheVariants.{Form, Sum, «Type», Upper, End, Range, Twice, After, NoEnd}
+use Rattle.object_hex.specs.declared.reading.faults.MapFault.{MapFault}
+use Rattle.sim51.specs.Locations.{port_number}
+
+-- a word of the program's own, and what it is about
+abbrev pub line_about : List ℕ → List ℕ → List ℕ
+line_about word about = word ++ (about ++ codes "\n")
+
+-- the words are no command
+abbrev pub usage : List ℕ
+usage = codes "usage\n"
+
+-- a source that isn't compiled yet
+abbrev pub unsupported : List ℕ
+unsupported = codes "refused 0 unsupported\n"
+
+-- a file isn't there
+abbrev pub no_file : List ℕ → List ℕ
+no_file name = line_about (codes "no file ") name
+
+-- a call at a file failed
+abbrev pub file_fault : List ℕ → List ℕ
+file_fault name = line_about (codes "file fault ") name
+
+-- a file is too long
+abbrev pub bad_file : List ℕ → List ℕ
+bad_file name = line_about (codes "bad file ") name
+
+-- what is wrong with a line of a hex text
+abbrev pub kind_word : HexKind → List ℕ
+kind_word Form = codes "form"
+kind_word Sum = codes "sum"
+kind_word «Type» = codes "type"
+kind_word Upper = codes "upper"
+kind_word End = codes "end"
+kind_word Range = codes "range"
+kind_word Twice = codes "twice"
+kind_word After = codes "after"
+kind_word NoEnd = codes "noend"
+
+-- the first bad line of a hex text
+abbrev pub bad_hex : HexFault → List ℕ
+bad_hex fault = codes "bad hex " ++ (decimal fault.line ++ (codes " " ++ (kind_word fault.kind ++ codes "\n")))
+
+-- the first bad line of a text of label addresses
+abbrev pub bad_map : MapFault → List ℕ
+bad_map fault = line_about (codes "bad map ") (decimal fault.line)
+
+-- the reserved opcode stands at an address
+abbrev pub reserved_line : ℕ → List ℕ
+reserved_line address = line_about (codes "reserved ") (hex_word address)
+
+-- a machine has halted after some cycles, or was stopped
+abbrev pub end_line : ℕ → List ℕ
+end_line cycles = line_about (codes "end ") (decimal cycles)
+
+abbrev pub stop_line : ℕ → List ℕ
+stop_line cycles = line_about (codes "stop ") (decimal cycles)
+
+-- the number of a port and a byte there, and the cycles before the instruction
+abbrev pub port_line : List ℕ → ℕ → ℕ → ℕ → List ℕ
+port_line letter port byte cycles = letter ++ (decimal port ++ (codes " " ++ (decimal byte ++ (codes " " ++ (decimal cycles ++ codes "\n")))))
+
+-- the same where there is a byte at a port
+abbrev pub port_lines : List ℕ → Option (Port × ℕ) → ℕ → List ℕ
+port_lines letter None cycles = []
+port_lines letter (Some seen) cycles = port_line letter (port_number seen.0) seen.1 cycles
+
+-- an event, and the cycles before the instruction that makes it: a label that is passed, the reading of a port, the writing of one
+abbrev pub event_line : ℕ → Event → List ℕ
+event_line cycles (Label label) = codes "L" ++ (decimal label.0 ++ (codes " " ++ (decimal cycles ++ codes "\n")))
+event_line cycles (Read port byte) = port_line (codes "R") (port_number port) byte cycles
+event_line cycles (Write port byte) = port_line (codes "P") (port_number port) byte cycles
+
+abbrev pub event_lines : ℕ → List Event → List ℕ
+event_lines cycles events = flat_map (event_line cycles) events

@@ -1,0 +1,131 @@
+//! Lines of numbers, and a text that is put by pieces.
+ghost use Rattle.std.specs.Prelude.{◌≡◌, ◌<◌, ◌++◌, ◌∷◌, [], codes, decimal, length, IfOk, IfErr};
+ghost use Rattle.cerco_base.specs.Calls.{PutsText};
+ghost use Rattle.cerco_base.specs.Memory.{sound_sink_state};
+ghost use Rattle.mcs51_isa.specs.Listing.{hex_digit, hex_word};
+ghost use Rattle.sim51.specs.Locations.{port_number};
+ghost use Rattle.sim51.specs.Runs.{events_of, label_events};
+ghost use Rattle.cerco_command.specs.Messages.{line_about, reserved_line, port_lines, event_lines};
+ghost use Rattle.cerco_command.specs.Stages.{PutsFront};
+
+use cerco_base::{IoFault, Label, Port, Sink, SoundSink, put_all};
+use itoa::Buffer;
+use sim51::Events;
+use std::alloc::Global;
+
+/// How many bytes are pending before they are put.
+const PIECE: usize = 4096;
+
+// Puts a word and a number.
+fn put_number<O: Sink>(word: &str, number: u64, out: &mut O) -> Result<(), IoFault>
+    ensures { PutsText (O.state out.old) (O.state out.new) (word.now ++ decimal number) result }
+{
+    put_all(out, word.as_bytes())?;
+    put_all(out, Buffer::new().format(number).as_bytes())
+}
+
+/// Puts a line with a word and a number.
+pub fn put_count<O: Sink>(word: &str, number: u64, out: &mut O) -> Result<(), IoFault>
+    ensures { PutsText (O.state out.old) (O.state out.new) (line_about word.now (decimal number)) result }
+{
+    put_number(word, number, out)?;
+    put_all(out, b"\n")
+}
+
+fn hex_digit(n: u16) -> u8
+    requires { n < 16 }
+    ensures { result ≡ hex_digit n }
+{
+    b"0123456789ABCDEF"[n as usize]
+}
+
+fn hex_word(address: u16) -> [u8; 4]
+    ensures { result ≡ hex_word address }
+{
+    let high = address / 256;
+    let low = address % 256;
+    [
+        hex_digit(high / 16),
+        hex_digit(high % 16),
+        hex_digit(low / 16),
+        hex_digit(low % 16),
+    ]
+}
+
+/// Puts the line of the reserved opcode at an address.
+pub fn put_reserved<O: Sink>(address: u16, out: &mut O) -> Result<(), IoFault>
+    ensures { PutsText (O.state out.old) (O.state out.new) (reserved_line address) result }
+{
+    put_all(out, b"reserved ")?;
+    put_all(out, &hex_word(address))?;
+    put_all(out, b"\n")
+}
+
+// Puts the line of a label that is passed, if there is one.
+fn put_label<O: Sink>(label: Option<Label>, cycles: u64, out: &mut O) -> Result<(), IoFault>
+    ensures { PutsText (O.state out.old) (O.state out.new) (event_lines cycles (label_events label)) result }
+{
+    let Some(Label(number)) = label else {
+        return Ok(());
+    };
+    put_number("L", number as u64, out)?;
+    put_count(" ", cycles, out)
+}
+
+// The number of a port.
+fn number_of(port: Port) -> u64
+    ensures { result ≡ port_number port }
+{
+    match port {
+        Port::P0 => 0,
+        Port::P1 => 1,
+        Port::P2 => 2,
+        Port::P3 => 3,
+    }
+}
+
+// Puts the line of a byte at a port, if there is one.
+fn put_port<O: Sink>(
+    letter: &str,
+    at: Option<(Port, u8)>,
+    cycles: u64,
+    out: &mut O,
+) -> Result<(), IoFault>
+    ensures { PutsText (O.state out.old) (O.state out.new) (port_lines letter.now at cycles) result }
+{
+    let Some((port, byte)) = at else {
+        return Ok(());
+    };
+    put_number(letter, number_of(port), out)?;
+    put_number(" ", byte as u64, out)?;
+    put_count(" ", cycles, out)
+}
+
+/// Puts the lines of the events that a step makes, with the machine cycles before it.
+pub fn put_events<O: Sink>(events: Events, cycles: u64, out: &mut O) -> Result<(), IoFault>
+    ensures { PutsText (O.state out.old) (O.state out.new) (event_lines cycles (events_of events)) result }
+{
+    put_label(events.label, cycles, out)?;
+    put_port("R", events.read, cycles, out)?;
+    put_port("P", events.write, cycles, out)
+}
+
+/// Puts a text that is pending, once it is long, and gives what is pending then.
+///
+/// # Errors
+///
+/// The fault of the output. A prefix of the text was put then.
+pub fn put_pending<O: Sink>(
+    alloc: Global,
+    pending: SoundSink,
+    out: &mut O,
+) -> Result<SoundSink, IoFault>
+    ensures front { IfOk result (λ left. PutsFront (O.state out.old) (O.state out.new) (sound_sink_state pending).bytes (sound_sink_state left).bytes) }
+    ensures fault { IfErr result (λ fault. PutsText {T = Unit {0}} (O.state out.old) (O.state out.new) (sound_sink_state pending).bytes (Err fault)) }
+{
+    if pending.bytes().len() < PIECE {
+        return Ok(pending);
+    }
+    put_all(out, pending.bytes())?;
+    Ok(SoundSink::new(alloc))
+}

@@ -1,0 +1,9 @@
+use Rattle.std.proofs.Common.{◌≡◌, ◌++◌, drop, map}
+use Rattle.clight_syntax.specs.Symbols.{terminal_of}
+use Rattle.clight_tokens.specs.TokenViews.{token_of}
+use Rattle.clight_tokens.specs.SymbolViews.{spellings}
+use Rattle.clight_tokens.proofs.symbols.symbols_of.Given as goal
+
+abbrev pub invariant-loop-token : goal.invariant-loop-token
+invariant-loop-token l =
+    l.list.items ++ map (terminal_of (spellings l.names)) (map token_of (drop l.token-index l.tokens)) ≡ map (terminal_of (spellings l.names)) (map token_of l.tokens)

@@ -1,0 +1,4 @@
+mod Numbers
+mod SamePlaces
+mod Appending
+mod Lists

@@ -1,0 +1,11 @@
+use Rattle.std.proofs.Common.{ap}
+use Rattle.clight_syntax.specs.TypedTrees as p
+use Rattle.cost_labels.proofs.Appending.{part_added}
+use Rattle.cost_labels.proofs.SamePlaces.{cond_from_is}
+use Rattle.cost_labels.proofs.statements.label_repeat.Goals as goal
+
+pub returns-clause-points : goal.returns-clause-points
+returns-clause-points c =
+    part_added _ _ _ _ _ _ _ _ _ _ _
+    (cond_from_is _ _ _ c.cond_from.ensures (ap (λ (x : p.Test (Unit {0})). x.condition) c.in_ok-test.ensures.alone)) c.cond_to.ensures
+    c.in_ok-add.ensures c.in_ok-test.ensures.points c.in_ok-again.ensures
