@@ -1,10 +1,12 @@
 pub mod Annotations
 pub mod Constants
+pub mod Conversions
 pub mod Depth
 pub mod Erasure
 pub mod Labelling
 pub mod Lexemes
 pub mod Numbers
+pub mod SourceTrees
 pub mod Spelling
 pub mod Symbols
 pub mod Tokens

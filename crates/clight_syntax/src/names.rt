@@ -1,5 +1,5 @@
 //! The identifiers of a source.
-ghost use Rattle.std.specs.Prelude.{◌≡◌, ◌++◌, ◌∷◌, [], length, IfOk, OnOk, OnErr};
+ghost use Rattle.std.specs.Prelude.{◌≡◌, ◌++◌, ◌∷◌, [], length, slice_index_or, IfOk, OnOk, OnErr};
 
 use cerco_base::NoMemory;
 use std::alloc::Global;
@@ -52,6 +52,16 @@ impl Names {
             copy.push(spelling.as_slice())?;
         }
         Ok(copy)
+    }
+
+    /// The spelling of the identifier with this number, nothing where there is none.
+    pub fn spelling(&self, number: u32) -> &[u8]
+        ensures { result.now ≡ slice_index_or self.now number [] }
+    {
+        match self.spellings.get(number as usize) {
+            Some(spelling) => spelling.as_slice(),
+            None => &[],
+        }
     }
 
     /// How many there are.
