@@ -1,13 +1,11 @@
 pub mod TreeForms
 pub mod Examples
-pub mod Shifts
-pub mod HeldCells
 pub mod Agreeing
 pub mod Moving
 pub mod Weights
 pub mod Windows
 pub mod Lists
-pub mod Nesting
-pub mod Filling
 pub mod Stacks
 pub mod Telling
+pub mod Opening
+pub mod Exact

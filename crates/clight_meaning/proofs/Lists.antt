@@ -7,18 +7,16 @@ use Rattle.clight_syntax.specs.declared.typed.Variable.{Variable}
 use Rattle.clight_syntax.specs.Types.{type_of}
 use Rattle.clight_syntax.specs.TypedTrees.{Expr, TypedProgram, type_at}
 use Rattle.clight_syntax.specs.TypedViews.{variable_of}
-use Rattle.clight_meaning.specs.declared.value.Value.{Value}
+use Rattle.clight_values.specs.declared.value.Value.{Value}
 use Rattle.clight_meaning.specs.declared.calls.Missing.{Missing}
 use Rattle.clight_meaning.specs.declared.calls.Missing.TheVariants as missing
-use Rattle.clight_meaning.specs.Memory.{Answer, State, initial}
+use Rattle.clight_values.specs.Memory.{Answer, State, initial}
 use Rattle.clight_meaning.specs.Expressions.{value}
-use Rattle.clight_meaning.specs.Meaning.{initials, is_scalar, joined, argument_values, converted_answer, variable_type}
+use Rattle.clight_meaning.specs.Meaning.{initials, joined, argument_values, converted_answer, variable_type}
+use Rattle.clight_values.specs.Memory.{is_scalar}
 use Rattle.clight_meaning.specs.Missing.{MayMiss, AddsArgument}
-use Rattle.clight_meaning.specs.Views.{variables_held}
-
--- the item at a place, and those behind it
-pub opened : {A : Type 0} (xs : List A) (i : ℕ) (x : A) → i < length xs → x ≡ get_or xs i x → drop i xs ≡ x ∷ drop (i + 1) xs
-opened xs i x lt is = let n : i + 1 ≡ suc i = omega arith in drop-cons xs i x lt ∙ ap (λ y. y ∷ drop (suc i) xs) (sym is) ∙ ap (λ m. x ∷ drop m xs) (sym n)
+use Rattle.clight_values.proofs.Walks.{opened}
+use Rattle.clight_values.specs.Views.{variables_held}
 
 -- ---- the first values of scalars
 

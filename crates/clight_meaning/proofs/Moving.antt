@@ -10,9 +10,9 @@ use Rattle.cerco_base.specs.declared.events.Port.TheVariants.{P1}
 use Rattle.cerco_base.specs.declared.events.FaultKind.{FaultKind}
 use Rattle.clight_syntax.specs.TypedTrees as t
 use Rattle.clight_syntax.specs.TypedTrees.{Cond, Truth, InParentheses, Not, Both, Either, Stmt, Empty, Block, Assign, ReadPort, WritePort, CallOf, If, IfElse, While, Do, For, Break, Continue, Return, Stmts, NoStmts, Then, Function, TypedProgram}
-use Rattle.clight_meaning.specs.declared.value.Value.{Value}
-use Rattle.clight_meaning.specs.declared.value.Value.TheVariants as v
-use Rattle.clight_meaning.specs.Memory.{Answer, State}
+use Rattle.clight_values.specs.declared.value.Value.{Value}
+use Rattle.clight_values.specs.declared.value.Value.TheVariants as v
+use Rattle.clight_values.specs.Memory.{Answer, State}
 use Rattle.clight_meaning.specs.Meaning.{Rest, only, says, passes, again, with_value, with_values, with_state, with_truth, with_byte, test, test_if_any, Calling, returned, taken, result_type, Goes, loop_goes, next_of_for, run, run_all, body_goes, call_of, call, calls}
 use Rattle.clight_meaning.specs.Evaluation.{Way, ByBreak, ByContinue, ByReturn, Waiting, Chooser, Negation, AndThen, OrElse, Work, Run, All, Turn', Check, Outcome', Wait, Pass, Caller, Take, Leave, Faulty, run_list, Onward, loop_of, next_turns, onward, standing, rest_of, Move, Silent, Says, SaysAndFails, Fails, Ends, quietly, listed, after_read, written, called_of, called, for_turned, for_begun, given_back, ran, turned, broken, chosen, decided, comes_out, outcome_of, checked, left_loop, left_by, begun, stepped}
 use Rattle.clight_meaning.proofs.Agreeing.{calls_unfold, while_turn, do_turn, for_turn, while_unfolds, do_unfolds, for_unfolds}

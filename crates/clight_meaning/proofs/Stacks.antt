@@ -8,7 +8,7 @@ use Rattle.clight_syntax.specs.declared.typed.Stmt.{Stmt}
 use Rattle.clight_syntax.specs.declared.typed.Stmt.TheVariants.{Block}
 use Rattle.clight_syntax.specs.declared.span.Span.{Span}
 use Rattle.clight_syntax.proofs.TypedRows.{block_is}
-use Rattle.clight_meaning.specs.Memory.{State}
+use Rattle.clight_values.specs.Memory.{State}
 use Rattle.cerco_base.specs.declared.events.Label.{Label}
 use Rattle.clight_meaning.specs.Evaluation as n
 use Rattle.clight_meaning.specs.declared.running.Work.{Work}

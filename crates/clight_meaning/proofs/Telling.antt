@@ -10,7 +10,7 @@ use Rattle.clight_syntax.specs.TypedViews.{program_of}
 use Rattle.clight_meaning.specs.declared.turn.Turn.{Turn}
 use Rattle.clight_meaning.specs.declared.turn.Turn.TheVariants as turn
 use Rattle.clight_meaning.specs.declared.running.Running.{Running}
-use Rattle.clight_meaning.specs.Memory.{State}
+use Rattle.clight_values.specs.Memory.{State}
 use Rattle.clight_meaning.specs.Meaning.{Rest, only, passes, says}
 use Rattle.clight_meaning.specs.Evaluation.{Work, Faulty, Move, Silent, Says, SaysAndFails, Fails, Ends, rest_of, stepped}
 use Rattle.clight_meaning.specs.Holding.{Matches, IsFaulty, Does, works_held}

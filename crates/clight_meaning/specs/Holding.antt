@@ -18,7 +18,7 @@ use Rattle.clight_meaning.specs.declared.running.Work.{Work}
 use Rattle.clight_meaning.specs.declared.running.Work.TheVariants as work
 use Rattle.clight_meaning.specs.declared.running.Running.{Running}
 use Rattle.clight_meaning.specs.Evaluation as n
-use Rattle.clight_meaning.specs.Memory.{State}
+use Rattle.clight_values.specs.Memory.{State}
 use Rattle.clight_meaning.specs.Views.{frame_held, state_held}
 
 abbrev pub way_held : Way → n.Way
@@ -90,4 +90,9 @@ PopsTo (Some w) old new = old ≡ work_held w ∷ new
 pub record Pops (answer : Option Work) (old new : Running) : Type 0 where
   pub program : new.program.now ≡ old.program.now
   pub works : PopsTo answer (works_held old.work.items) (works_held new.work.items)
+  pub state : state_held new.state ≡ state_held old.state
+
+pub record Announces (l : Label) (w : n.Work) (old new : Running) : Type 0 where
+  pub program : new.program.now ≡ old.program.now
+  pub works : works_held new.work.items ≡ n.Pass l ∷ w ∷ works_held old.work.items
   pub state : state_held new.state ≡ state_held old.state

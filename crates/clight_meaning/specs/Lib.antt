@@ -1,5 +1,3 @@
-pub mod Values
-pub mod Memory
 pub mod Expressions
 pub mod Meaning
 pub mod Evaluation

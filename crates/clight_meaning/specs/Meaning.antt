@@ -20,11 +20,13 @@ use Rattle.clight_syntax.specs.declared.tree.EarlierNumber.{EarlierNumber}
 use Rattle.clight_syntax.specs.Trees.{Global, Initialiser, NoInitialiser, Single, Listed}
 use Rattle.clight_syntax.specs.Types.{One, CType, Void, Integer, Pointer, StructType}
 use Rattle.clight_syntax.specs.TypedTrees.{Expr, type_at, Cond, Truth, InParentheses, Not, Both, Either, Assignment, EarlierArgument, Arguments, NoArguments, Arguments', Stmt, Empty, Block, Assign, ReadPort, WritePort, CallOf, If, IfElse, While, Do, For, Break, Continue, Return, Stmts, NoStmts, Then, LocalInitialiser, NoValue, Value, Local, Function, Item, StructItem, GlobalItem, PrototypeItem, FunctionItem, Variable', TypedProgram}
-use Rattle.clight_meaning.specs.declared.value.Value as w
-use Rattle.clight_meaning.specs.declared.value.Value.TheVariants as v
-use Rattle.clight_meaning.specs.Values.{converted, difference, literal_type}
-use Rattle.clight_meaning.specs.Memory.{Answer, Cell, Memory, Kinds, kinds_of, initial, is_true, with_blocks, unset, left, Frame, State}
-use Rattle.clight_meaning.specs.Expressions.{then_value, assigned_value, Position, home_position, variable_position, stored_in, position, value}
+use Rattle.clight_values.specs.declared.value.Value as w
+use Rattle.clight_values.specs.declared.value.Value.TheVariants as v
+use Rattle.clight_values.specs.Values.{converted, difference, literal_type}
+use Rattle.clight_values.specs.Memory.{is_scalar, own_blocks, Answer, Cell, Memory, Kinds, kinds_of, initial, is_true, with_blocks, unset, left, Frame, State}
+use Rattle.clight_values.specs.Globals.{filled, numbers_of}
+use Rattle.clight_values.specs.Operators.{then_value, assigned_value}
+use Rattle.clight_meaning.specs.Expressions.{Position, home_position, variable_position, stored_in, position, value}
 
 -- ---- what is told
 
@@ -177,25 +179,10 @@ first_parameter p f = parameter_in (slice_get p.functions f)
 abbrev pub own_variables : {L : Type 0} → TypedProgram L → Function L → List Variable'
 own_variables p f = take (f.parameters + length f.locals) (drop f.first_variable p.variables)
 
-abbrev pub is_scalar : CType → Bool
-is_scalar (Integer size signed) = true
-is_scalar (Pointer target) = true
-is_scalar _ = false
-
 -- the first values of the scalars among some variables
 abbrev pub initials : List Variable' → List w.Value
 initials [] = []
 initials (x ∷ xs) = if is_scalar x.type then initial x.type ∷ initials xs else initials xs
-
-abbrev pub block_in : Home → List Cell → List (List Cell) → List (List Cell)
-block_in (home.Block b) cells more = cells ∷ more
-block_in (home.Global b) cells more = more
-block_in (home.Scalar n) cells more = more
-
--- the blocks of those variables that live in one, unset
-abbrev pub own_blocks : List StructType → List Variable' → List (List Cell)
-own_blocks structs [] = []
-own_blocks structs (x ∷ xs) = block_in x.home (map unset (kinds_of structs x.type)) (own_blocks structs xs)
 
 -- a call of a function begins with these arguments: it has fresh blocks and scalars
 abbrev pub entered : {L : Type 0} → TypedProgram L → Function L → List w.Value → State → State
@@ -342,34 +329,6 @@ unfoldable pub calls : TypedProgram Label → Calling → Rest
 calls p = again (call p)
 
 -- ---- a whole run
-
-abbrev pub signed_bits_of : Literal → Option Span → ℕ
-signed_bits_of l None = l.value
-signed_bits_of l (Some minus) = difference (literal_type l) 0 l.value
-
--- the bits of a number, perhaps with a `-` before it
-abbrev pub signed_bits : SignedNumber → ℕ
-signed_bits n = signed_bits_of n.number n.minus
-
--- the first value of a scalar of this type by a number
-abbrev pub given : CType → SignedNumber → w.Value
-given (Integer size signed) n = v.Integer (converted (literal_type n.number) (record { size = size; signed = signed }) (signed_bits n))
-given T n = initial T
-
-abbrev pub first_value : CType → Option SignedNumber → w.Value
-first_value T None = initial T
-first_value T (Some n) = given T n
-
--- the cells of a global: its numbers, from this one on, are the first values of its scalars in order, and the others are 0 or null
-abbrev pub filled : Kinds → List SignedNumber → ℕ → List Cell
-filled [] ns i = []
-filled (None ∷ kinds) ns i = record { kind = None; value = None } ∷ filled kinds ns i
-filled (Some T ∷ kinds) ns i = record { kind = Some T; value = Some (first_value T (slice_get ns i)) } ∷ filled kinds ns (suc i)
-
-abbrev pub numbers_of : Initialiser → List SignedNumber
-numbers_of NoInitialiser = []
-numbers_of (Single equals n) = n ∷ []
-numbers_of (Listed equals left earlier last right) = map (λ (n : EarlierNumber). n.number) earlier ++ last ∷ []
 
 abbrev pub global_cells : {L : Type 0} → TypedProgram L → Global → ℕ → List Cell
 global_cells p g n = filled (kinds_of p.structs (variable_type p n)) (numbers_of g.initialiser) 0

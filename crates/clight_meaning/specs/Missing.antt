@@ -1,7 +1,7 @@
 -- Why there are no values.
 use Rattle.std.specs.Prelude.{◌≡◌, List, [], ◌∷◌, ◌++◌, Result, Ok, Err}
 use Rattle.cerco_base.specs.declared.events.FaultKind.{FaultKind}
-use Rattle.clight_meaning.specs.declared.value.Value.{Value}
+use Rattle.clight_values.specs.declared.value.Value.{Value}
 use Rattle.clight_meaning.specs.declared.calls.Missing.{Missing}
 use Rattle.clight_meaning.specs.declared.calls.Missing.TheVariants.{Fault, Memory}
 

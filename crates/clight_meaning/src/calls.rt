@@ -3,17 +3,18 @@ ghost use Rattle.std.specs.Prelude.{◌≡◌, ℕ, ◌+◌, ◌++◌, ◌<◌, 
 ghost use Rattle.clight_syntax.specs.Types.{type_of};
 ghost use Rattle.clight_syntax.specs.TypedViews.{arguments_of, expr_of, function_of, local_of, local_initialiser_of, program_of};
 ghost use Rattle.clight_syntax.specs.TypedTrees.{type_at};
-ghost use Rattle.clight_meaning.specs.Memory as m;
+ghost use Rattle.clight_values.specs.Memory as m;
 ghost use Rattle.clight_meaning.specs.Expressions as e;
 ghost use Rattle.clight_meaning.specs.Meaning as n;
 ghost use Rattle.clight_meaning.specs.Missing.{MayMiss, AddsArgument};
-ghost use Rattle.clight_meaning.specs.Views.{Makes, frame_held, memory_held, state_held, structs_held, variables_held};
+ghost use Rattle.clight_values.specs.Views.{Makes, memory_held, structs_held, variables_held};
+ghost use Rattle.clight_meaning.specs.Views.{frame_held, state_held};
 
-use crate::lookup::{first_items, item_at, items_from};
-use crate::memory::{initial, is_scalar, Memory};
+use clight_values::lookup::{first_items, item_at, items_from};
+use clight_values::memory::{initial, is_scalar, Memory};
 use crate::state::{type_at, Frame, State};
 use crate::statements::{converted_to, variable_type};
-use crate::value::Value;
+use clight_values::value::Value;
 use cerco_base::{FaultKind, Label, NoMemory};
 use clight_syntax::typed::{
     Arguments, Expr, Function, Home, Local, LocalInitialiser, StructType, TypedProgram, Variable,
@@ -240,7 +241,7 @@ impl<'a> State<'a> {
             cells,
             call: self.made,
             depth,
-            result: &function.result,
+            result: Some(&function.result),
             scalars,
         };
         self.made = made;

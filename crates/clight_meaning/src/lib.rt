@@ -2,16 +2,17 @@
 //! event.
 #![tactic(auto)]
 
+mod beginning;
 mod calls;
-mod globals;
-mod integer;
-mod lookup;
-mod memory;
+pub mod evaluator;
+pub mod laws;
 mod running;
 mod state;
 mod statements;
 pub mod turn;
-pub mod value;
 
+pub use evaluator::Evaluator;
 pub use turn::Turn;
-pub use value::{Place, Value};
+
+#[cfg(test)]
+mod tests;

@@ -6,18 +6,20 @@ ghost use Rattle.clight_syntax.specs.TypedViews.{assignment_of, call_of, cond_of
 ghost use Rattle.clight_meaning.specs.Expressions as x;
 ghost use Rattle.clight_meaning.specs.Meaning as e;
 ghost use Rattle.clight_meaning.specs.Evaluation as n;
-ghost use Rattle.clight_meaning.specs.Memory.{State as HeldState};
+ghost use Rattle.clight_values.specs.Memory.{State as HeldState};
 ghost use Rattle.clight_meaning.specs.Holding.{condition_held, Does, Enters, Pops, Pushes, work_held, works_held, way_held};
 ghost use Rattle.clight_meaning.specs.Turns.{Tells, rest_held};
-ghost use Rattle.clight_meaning.specs.Views.{Makes, frame_held, state_held};
+ghost use Rattle.clight_values.specs.Views.{Makes};
+ghost use Rattle.clight_meaning.specs.Views.{frame_held, state_held};
 ghost use Rattle.cerco_base.specs.declared.events.FaultKind.{FaultKind};
 
 use crate::calls::Missing;
-use crate::lookup::item_at;
-use crate::memory::initial;
-use crate::state::{converted_answer, integer_type, type_at, Frame, State};
+use clight_values::lookup::item_at;
+use crate::state::{type_at, Frame, State};
+use crate::statements::{converted_to, initial_of};
+use clight_values::operators::integer_type;
 use crate::turn::Turn;
-use crate::value::Value;
+use clight_values::value::Value;
 use cerco_base::{Event, FaultKind, Label, NoMemory, Port};
 use clight_syntax::typed::{
     Assignment, Call, Cond, Expr, ForHead, Function, ResultTarget, Stmt, Test, TypedProgram,
@@ -86,7 +88,7 @@ pub(crate) struct Running<'a> {
 impl<'a> Running<'a> {
     /// Puts some work before all other.
     #[tactic(auto, using(crate::proofs::Stacks::work_laws))]
-    fn push(&mut self, work: Work<'a>) -> Result<(), NoMemory>
+    pub(crate) fn push(&mut self, work: Work<'a>) -> Result<(), NoMemory>
         ensures { OnOk result (Pushes (work_held work.entry) self.old self.new) }
     {
         self.work.push(work)?;
@@ -181,7 +183,7 @@ impl<'a> Running<'a> {
         ensures { IfOk result (λ t. Does (n.given_back (works_held self.old.work.items) (state_held self.old.state) (e.converted_answer (type_at (expr_of expression.now)) (state_held self.old.state).frame.result (x.value (program_of self.old.program.now) (expr_of expression.now) (state_held self.old.state)))) t self.old self.new) }
     {
         let value = self.state.value(self.program, expression);
-        match converted_answer(type_at(expression), self.state.frame.result, value) {
+        match converted_to(type_at(expression), self.state.frame.result, value) {
             Err(kind) => self.fault(kind),
             Ok(value) => {
                 self.push(Work::Leave(Way::Return(value)))?;
@@ -402,7 +404,7 @@ impl<'a> Running<'a> {
     }
 
     /// The function with this number, if there is one.
-    fn function(&self, number: u32) -> Option<&'a Function<Label>>
+    pub(crate) fn function(&self, number: u32) -> Option<&'a Function<Label>>
         ensures { option_map (λ f. function_of f) (option_copied result) ≡ slice_get (program_of self.now.program.now).functions number }
     {
         item_at(self.program.functions.as_slice(), number as usize)
@@ -457,7 +459,7 @@ impl<'a> Running<'a> {
             Stmt::Break(_, _) => self.leave(Way::Break),
             Stmt::Continue(_, _) => self.leave(Way::Continue),
             Stmt::Return(_, None, _) => {
-                let value = initial(self.state.frame.result);
+                let value = initial_of(self.state.frame.result);
                 self.leave(Way::Return(value))
             }
             Stmt::Return(_, Some(value), _) => self.give_back(value),
@@ -572,8 +574,8 @@ impl<'a> Running<'a> {
     {
         match way {
             Way::Return(value) => value,
-            Way::Break => initial(self.state.frame.result),
-            Way::Continue => initial(self.state.frame.result),
+            Way::Break => initial_of(self.state.frame.result),
+            Way::Continue => initial_of(self.state.frame.result),
         }
     }
 
@@ -654,7 +656,7 @@ impl<'a> Running<'a> {
             Some(Work::Negation) => Ok(None),
             Some(Work::Pass(label)) => Ok(Some(Turn::Event(Event::Label(label)))),
             Some(Work::Caller(target, ty, back, frame)) => {
-                let value = initial(self.state.frame.result);
+                let value = initial_of(self.state.frame.result);
                 self.come_back(target, ty, back, frame, value)
             }
             Some(Work::Take(target, ty, value)) => self.take(target, ty, value),

@@ -2,13 +2,16 @@
 ghost use Rattle.std.specs.Prelude.{◌≡◌, ℕ, drop, length, take, slice_get, MatchResult, Ok};
 ghost use Rattle.clight_syntax.specs.Types.{type_of};
 ghost use Rattle.clight_syntax.specs.TypedViews.{assignment_of, expr_of, program_of};
-ghost use Rattle.clight_meaning.specs.Expressions as e;
+ghost use Rattle.clight_values.specs.Memory as m;
 ghost use Rattle.clight_meaning.specs.Meaning as n;
-ghost use Rattle.clight_meaning.specs.Views.{Makes, assignments_held, positions_held, state_held, type_held, variables_held};
+ghost use Rattle.clight_values.specs.Views.{Makes, type_held, variables_held};
+ghost use Rattle.clight_meaning.specs.Views.{assignments_held, positions_held, state_held};
 
-use crate::lookup::item_at;
-use crate::state::{converted_answer, type_at, Position, State};
-use crate::value::Value;
+use clight_values::lookup::item_at;
+use clight_values::memory::initial;
+use crate::state::{type_at, Position, State};
+use clight_values::operators::converted_answer;
+use clight_values::value::Value;
 use cerco_base::{FaultKind, Label};
 use clight_syntax::typed::{Assignment, Expr, ResultTarget, TypedProgram, Variable};
 use clight_syntax::Ty;
@@ -34,6 +37,16 @@ pub(crate) fn converted_to(
             Err(kind) => Err(kind),
             Ok(_) => Err(FaultKind::Outside),
         },
+    }
+}
+
+/// The value with which a scalar of this type begins, 0 where there is no type.
+pub(crate) fn initial_of(ty: Option<&Ty>) -> Value
+    ensures { result ≡ m.initial (type_held ty.entry) }
+{
+    match ty {
+        None => Value::Integer(0),
+        Some(ty) => initial(ty),
     }
 }
 

@@ -3,10 +3,11 @@ use Rattle.std.proofs.lemmas.List.{append-nil, drop_all}
 use Rattle.clight_syntax.specs.declared.typed.EarlierArgument.{EarlierArgument}
 use Rattle.clight_syntax.specs.TypedTrees as t
 use Rattle.clight_syntax.specs.TypedViews.{earlier_argument_of, expr_of, program_of}
-use Rattle.clight_meaning.specs.declared.value.Value.{Value}
+use Rattle.clight_values.specs.declared.value.Value.{Value}
 use Rattle.clight_meaning.specs.Meaning.{argument_values}
 use Rattle.clight_meaning.specs.Views.{state_held}
-use Rattle.clight_meaning.proofs.Lists.{after, opened, next_argument, argument_added}
+use Rattle.clight_values.proofs.Walks.{opened}
+use Rattle.clight_meaning.proofs.Lists.{after, next_argument, argument_added}
 use Rattle.clight_meaning.proofs.state.State.argument_values.Goals as goal
 
 abbrev the_rest : List EarlierArgument → t.Expr → List t.Expr

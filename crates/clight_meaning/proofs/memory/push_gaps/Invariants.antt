@@ -1,7 +1,0 @@
-use Rattle.std.proofs.Common.{◌≡◌, ◌++◌, map, replicate, None}
-use Rattle.clight_meaning.specs.Memory.{unset}
-use Rattle.clight_meaning.specs.Views.{cells_held}
-use Rattle.clight_meaning.proofs.memory.push_gaps.Given as goal
-
-abbrev pub invariant-loop : goal.invariant-loop
-invariant-loop l = cells_held l.cells.items ≡ cells_held l.fn.cells.items ++ map unset (replicate l.counter None)
