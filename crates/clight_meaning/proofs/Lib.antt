@@ -9,3 +9,4 @@ pub mod Stacks
 pub mod Telling
 pub mod Opening
 pub mod Exact
+pub mod Growing

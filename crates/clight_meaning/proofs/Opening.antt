@@ -10,7 +10,10 @@ use Rattle.clight_values.specs.declared.value.Value.{Value}
 use Rattle.clight_values.specs.Memory.{State}
 use Rattle.clight_meaning.specs.Meaning.{Rest, only, passes, with_state, Calling, Goes, run_all, body_goes, entered, prepared, beginning, call_of, calls, source}
 use Rattle.clight_meaning.specs.Evaluation.{Work, Pass, All, Faulty, run_list, standing, rest_of, listed}
+use Rattle.clight_meaning.specs.declared.running.Work.{Work as HeldWork}
+use Rattle.clight_meaning.specs.Holding.{works_held}
 use Rattle.clight_meaning.proofs.Agreeing.{calls_unfold}
+use Rattle.clight_meaning.proofs.Stacks.{works_held-nil}
 use Rattle.clight_meaning.proofs.Moving.{run_listed}
 
 -- what is behind the call of `main`
@@ -36,13 +39,13 @@ source_main p script f is =
 pub no_budget : (p : TypedProgram Label) (script : List ℕ) (f : Function Label) → slice_get p.functions p.main ≡ Some f → source p script 0 ≡ Stops [] Stopped
 no_budget p script f is = ap (λ (r : Rest). r 0) (source_main p script f is)
 
--- the work stands for the call
-pub opened_body : (p : TypedProgram Label) (l : Label) (ss : List (Stmt Label)) (ws nw : List Work) (ns : State) (r : Result State FaultKind) → nw ≡ Pass l ∷ All ss ∷ ws → r ≡ Ok ns
-    → rest_of p nw ns ≡ passes l (with_state r (run_list p ss (standing p ws).goes))
-opened_body p l ss ws nw ns r works is =
-    ap (λ xs. rest_of p xs ns) works ∙ ap (λ x. passes l (with_state x (run_list p ss (standing p ws).goes))) (sym is)
+-- nothing is left to do where there is no `main`
+pub nothing_left : (p : TypedProgram Label) (script : List ℕ) (items : List HeldWork) (st : State) → items ≡ [] → slice_get p.functions p.main ≡ None → rest_of p (works_held items) st ≡ source p script
+nothing_left p script items st empty is = ap (λ xs. rest_of p (works_held xs) st) empty ∙ ap (λ ws. rest_of p ws st) works_held-nil ∙ sym (source_missing p script is)
 
-pub opened_fault : (p : TypedProgram Label) (l : Label) (kind : FaultKind) (ws nw : List Work) (ns : State) (r : Result State FaultKind) (go : State → Rest) → nw ≡ Pass l ∷ Faulty kind ∷ ws → r ≡ Err kind
-    → rest_of p nw ns ≡ passes l (with_state r go)
-opened_fault p l kind ws nw ns r go works is =
-    ap (λ xs. rest_of p xs ns) works ∙ ap (λ x. passes l (with_state x go)) (sym is)
+-- else the call of `main` is
+pub main_opened : (p : TypedProgram Label) (script : List ℕ) (f : Function Label) (items : List HeldWork) (st : State) (r : Rest) → r ≡ opens p f st (standing p (works_held items)).goes
+    → items ≡ [] → st ≡ beginning p script → slice_get p.functions p.main ≡ Some f → r ≡ source p script
+main_opened p script f items st r opened empty begins is =
+    opened ∙ ap (λ xs. opens p f st (standing p (works_held xs)).goes) empty ∙ ap (λ ws. opens p f st (standing p ws).goes) works_held-nil
+    ∙ ap (λ s. opens p f s (body_goes at_end)) begins ∙ sym (source_main p script f is)

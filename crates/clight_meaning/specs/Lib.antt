@@ -5,3 +5,4 @@ pub mod Missing
 pub mod Views
 pub mod Holding
 pub mod Turns
+pub mod Budgets

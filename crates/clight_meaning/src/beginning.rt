@@ -92,6 +92,7 @@ impl<'a> Running<'a> {
     }
 
     /// A function is called without arguments, and what is left to do comes behind it.
+    #[tactic(auto, using(crate::proofs::Stacks::work_laws))]
     fn open(&mut self, function: &'a Function<Label>) -> Result<(), NoMemory>
         ensures { OnOk result (rest_held self.new ≡ e.passes function.now.label (e.with_state (e.prepared (program_of self.old.program.now) (function_of function.now) (e.entered (program_of self.old.program.now) (function_of function.now) [] (state_held self.old.state))) (n.run_list (program_of self.old.program.now) (n.listed (function_of function.now).body []) (n.standing (program_of self.old.program.now) (works_held self.old.work.items)).goes))) }
     {

@@ -42,6 +42,7 @@ impl<'a> Evaluator<'a> {
 
     /// The next event of the meaning, or that the run has ended or meets a fault, which is answered again from then on. After want
     /// of memory it answers want of memory from then on.
+    #[tactic(auto, using(crate::proofs::Exact::only_answers))]
     pub fn next(&mut self) -> Result<Turn, NoMemory>
         requires { self.old.labels < 2 ^ 62 }
         ensures told { IfOk result (λ t. Tells t (rest self.old) (rest self.new)) }
