@@ -15,6 +15,7 @@ use Rattle.clight_syntax.specs.declared.symbol.Radix.TheVariants.{Decimal}
 use Rattle.clight_syntax.specs.declared.typed.Home.{Home}
 use Rattle.clight_syntax.specs.declared.typed.Home.TheVariants.{Global, Block, Scalar}
 use Rattle.clight_syntax.specs.declared.typed.ResultTarget.{ResultTarget}
+use Rattle.clight_syntax.specs.Conversions.{unsigned_char, unsigned_int}
 use Rattle.clight_syntax.specs.Trees as tree
 use Rattle.clight_syntax.specs.Types.{One, Two, Four, CType, Void, Integer, Pointer, Array, Struct, StructType}
 use Rattle.clight_syntax.specs.TypedTrees as t
@@ -39,19 +40,13 @@ abbrev pub P : ℕ → Event
 P byte = event.Write P1 byte
 
 abbrev pub char' : CType
-char' = Integer One false
+char' = unsigned_char
 
 abbrev pub signed_char : CType
 signed_char = Integer One true
 
-abbrev pub int : CType
-int = Integer Two true
-
 abbrev pub unsigned : CType
-unsigned = Integer Two false
-
-abbrev pub long : CType
-long = Integer Four true
+unsigned = unsigned_int
 
 abbrev pub var : CType → ℕ → t.Expr
 var T n = t.Variable T n name

@@ -10,6 +10,7 @@ use Rattle.cerco_base.specs.declared.events.Port.TheVariants.{P1}
 use Rattle.cerco_base.specs.declared.events.FaultKind.{FaultKind}
 use Rattle.cerco_base.specs.declared.events.FaultKind.TheVariants.{Outside}
 use Rattle.clight_syntax.specs.declared.typed.ResultTarget.{ResultTarget}
+use Rattle.clight_syntax.specs.Conversions.{unsigned_char}
 use Rattle.clight_syntax.specs.Types.{CType}
 use Rattle.clight_syntax.specs.TypedTrees as t
 use Rattle.clight_syntax.specs.TypedTrees.{type_at, Cond, Truth, InParentheses, Not, Both, Either, Stmt, Empty, Block, Assign, ReadPort, WritePort, CallOf, If, IfElse, While, Do, For, Break, Continue, Return, Stmts, NoStmts, Then, Function, TypedProgram}
@@ -19,7 +20,7 @@ use Rattle.clight_values.specs.declared.value.Value.{Value}
 use Rattle.clight_values.specs.declared.value.Value.TheVariants as v
 use Rattle.clight_values.specs.Memory.{Answer, initial, is_true, Frame, State}
 use Rattle.clight_meaning.specs.Expressions.{position, value}
-use Rattle.clight_meaning.specs.Meaning.{Rest, only, says, passes, again, truth_of, test, test_if_any, assigned, assigned_if_any, assigned_to, converted_answer, first_of, after_reading, unsigned_char, argument_list, argument_values, first_parameter, entered, returned, prepared, result_type, taken, with_state, Goes, loop_goes, until, next_of_for, run, run_all, body_goes, calls}
+use Rattle.clight_meaning.specs.Meaning.{Rest, only, says, passes, again, truth_of, test, test_if_any, assigned, assigned_if_any, assigned_to, converted_answer, first_of, after_reading, argument_list, argument_values, first_parameter, entered, returned, prepared, result_type, taken, with_state, Goes, loop_goes, until, next_of_for, run, run_all, body_goes, calls}
 
 -- ---- work
 

@@ -18,6 +18,7 @@ use Rattle.clight_syntax.specs.declared.typed.Home.TheVariants as home
 use Rattle.clight_syntax.specs.declared.typed.ResultTarget.{ResultTarget}
 use Rattle.clight_syntax.specs.declared.tree.EarlierNumber.{EarlierNumber}
 use Rattle.clight_syntax.specs.Trees.{Global, Initialiser, NoInitialiser, Single, Listed}
+use Rattle.clight_syntax.specs.Conversions.{unsigned_char}
 use Rattle.clight_syntax.specs.Types.{One, CType, Void, Integer, Pointer, StructType}
 use Rattle.clight_syntax.specs.TypedTrees.{Expr, type_at, Cond, Truth, InParentheses, Not, Both, Either, Assignment, EarlierArgument, Arguments, NoArguments, Arguments', Stmt, Empty, Block, Assign, ReadPort, WritePort, CallOf, If, IfElse, While, Do, For, Break, Continue, Return, Stmts, NoStmts, Then, LocalInitialiser, NoValue, Value, Local, Function, Item, StructItem, GlobalItem, PrototypeItem, FunctionItem, Variable', TypedProgram}
 use Rattle.clight_values.specs.declared.value.Value as w
@@ -141,9 +142,6 @@ first_of (b ∷ bs) = b
 -- a reading takes the script's next byte, 255 behind its end
 abbrev pub after_reading : State → State
 after_reading st = record st { script = drop 1 st.script }
-
-abbrev pub unsigned_char : CType
-unsigned_char = Integer One false
 
 abbrev pub with_byte : Answer → (ℕ → Rest) → Rest
 with_byte (Err k) go = only (Faults [] k)

@@ -1,5 +1,6 @@
 //! A run, step by step, with what is left to do as a list of work.
 ghost use Rattle.std.specs.Prelude.{◌≡◌, ℕ, ◌∷◌, IfOk, MatchOption, Ok, OnOk, Result, if◌then◌else◌, List, MatchResult, map, option_copied, option_map, slice_get};
+ghost use Rattle.clight_syntax.specs.Conversions.{unsigned_char};
 ghost use Rattle.clight_syntax.specs.Types.{type_of};
 ghost use Rattle.clight_syntax.specs.TypedTrees.{type_at};
 ghost use Rattle.clight_syntax.specs.TypedViews.{assignment_of, call_of, cond_of, expr_of, function_of, program_of, stmt_of};
@@ -162,7 +163,7 @@ impl<'a> Running<'a> {
 
     /// Reads the port into a place.
     fn read(&mut self, target: &'a Expr) -> Result<Option<Turn>, NoMemory>
-        ensures { IfOk result (λ t. Does (n.after_read (e.first_of (state_held self.old.state).script) (works_held self.old.work.items) (e.assigned_to (type_at (expr_of target.now)) (x.position (program_of self.old.program.now) (expr_of target.now) (e.after_reading (state_held self.old.state))) e.unsigned_char (Ok (Value.Integer (e.first_of (state_held self.old.state).script))) (e.after_reading (state_held self.old.state)))) t self.old self.new) }
+        ensures { IfOk result (λ t. Does (n.after_read (e.first_of (state_held self.old.state).script) (works_held self.old.work.items) (e.assigned_to (type_at (expr_of target.now)) (x.position (program_of self.old.program.now) (expr_of target.now) (e.after_reading (state_held self.old.state))) unsigned_char (Ok (Value.Integer (e.first_of (state_held self.old.state).script))) (e.after_reading (state_held self.old.state)))) t self.old self.new) }
     {
         let byte = self.state.read();
         let position = self.state.position(self.program, target);
@@ -377,7 +378,7 @@ impl<'a> Running<'a> {
 
 /// The byte that a value gives to a port.
 fn port_byte(from: &Ty, value: Result<Value, FaultKind>) -> Result<u8, FaultKind>
-    ensures { MatchResult result (λ byte. e.converted_answer (type_of from.now) e.unsigned_char value ≡ Ok (Value.Integer byte)) (λ kind. (ws : List n.Work) (st : HeldState) → n.written ws st (e.converted_answer (type_of from.now) e.unsigned_char value) ≡ n.Fails kind) }
+    ensures { MatchResult result (λ byte. e.converted_answer (type_of from.now) unsigned_char value ≡ Ok (Value.Integer byte)) (λ kind. (ws : List n.Work) (st : HeldState) → n.written ws st (e.converted_answer (type_of from.now) unsigned_char value) ≡ n.Fails kind) }
 {
     match value {
         Err(kind) => Err(kind),
@@ -394,7 +395,7 @@ fn port_byte(from: &Ty, value: Result<Value, FaultKind>) -> Result<u8, FaultKind
 impl<'a> Running<'a> {
     /// Writes a value to the port.
     fn write(&mut self, expression: &'a Expr) -> Result<Option<Turn>, NoMemory>
-        ensures { IfOk result (λ t. Does (n.written (works_held self.old.work.items) (state_held self.old.state) (e.converted_answer (type_at (expr_of expression.now)) e.unsigned_char (x.value (program_of self.old.program.now) (expr_of expression.now) (state_held self.old.state)))) t self.old self.new) }
+        ensures { IfOk result (λ t. Does (n.written (works_held self.old.work.items) (state_held self.old.state) (e.converted_answer (type_at (expr_of expression.now)) unsigned_char (x.value (program_of self.old.program.now) (expr_of expression.now) (state_held self.old.state)))) t self.old self.new) }
     {
         let value = self.state.value(self.program, expression);
         match port_byte(type_at(expression), value) {

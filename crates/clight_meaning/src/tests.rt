@@ -102,7 +102,7 @@ fn declared(alloc: Global) -> Declared {
 fn function(
     alloc: Global,
     label: u16,
-    result: Ty,
+    returned: Ty,
     first_variable: u32,
     locals: u32,
     body: Vec<Stmt<Label>>,
@@ -123,7 +123,7 @@ fn function(
     };
     Ok(Function {
         header,
-        result,
+        result: returned,
         first_variable,
         parameters: 0,
         left: NOWHERE,
