@@ -3,3 +3,7 @@
 
 #[cfg(test)]
 mod labels;
+#[cfg(test)]
+mod names;
+#[cfg(test)]
+mod runs;

@@ -11,6 +11,3 @@ pub mod regions;
 mod statements;
 
 pub use judge::check_names;
-
-#[cfg(test)]
-mod tests;

@@ -1,5 +1,7 @@
-use super::check_names;
+//! The first wrong name of a program.
+
 use cerco_base::{Fault, NameKind, NoMemory, Reason};
+use clight_names::check_names;
 use clight_syntax::tree::{
     Declaration, Declared, Function, Global, Header, Initialiser, Item, Name, Parameters, Program,
     Prototype, Specifiers,
