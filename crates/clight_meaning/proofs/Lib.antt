@@ -1,0 +1,12 @@
+pub mod TreeForms
+pub mod Examples
+pub mod Agreeing
+pub mod Moving
+pub mod Weights
+pub mod Windows
+pub mod Lists
+pub mod Stacks
+pub mod Telling
+pub mod Opening
+pub mod Exact
+pub mod Growing

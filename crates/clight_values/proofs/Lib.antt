@@ -1,0 +1,6 @@
+pub mod Common
+pub mod Walks
+pub mod Shifts
+pub mod HeldCells
+pub mod Nesting
+pub mod Filling

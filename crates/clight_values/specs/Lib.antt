@@ -1,0 +1,5 @@
+pub mod Values
+pub mod Memory
+pub mod Operators
+pub mod Globals
+pub mod Views

@@ -1,0 +1,31 @@
+//! Items of lists by their numbers.
+ghost use Rattle.std.specs.Prelude.{◌≡◌, drop, take, slice_get, option_copied};
+
+/// The item with this number, counted from 0, if there is one.
+pub fn item_at<T>(items: &[T], number: usize) -> Option<&T>
+    ensures { option_copied result ≡ slice_get items.now number }
+{
+    items.get(number)
+}
+
+/// The items from this number on.
+pub fn items_from<T>(items: &[T], first: usize) -> &[T]
+    ensures { result.now ≡ drop first items.now }
+{
+    if first < items.len() {
+        &items[first..]
+    } else {
+        &items[..0]
+    }
+}
+
+/// The first so many items.
+pub fn first_items<T>(items: &[T], count: usize) -> &[T]
+    ensures { result.now ≡ take count items.now }
+{
+    if count < items.len() {
+        &items[..count]
+    } else {
+        items
+    }
+}
