@@ -248,8 +248,8 @@ pub calls_unfold : (p : TypedProgram Label) (c : Calling) → calls p c ≡ call
 unfolding calls again
 calls_unfold p c = λ i n. whole n i
   where
-  whole : (n : ℕ) → calls p c n ≡ call p (calls p) c n
-  whole n = (call_of_agrees p (slice_get p.functions c.function) n c.function c.arguments c.from c.return c.return (turns (call p) n) (calls p) (turns_calls p n) (λ x st. agree_same n _)).at n (omega arith)
+    whole : (n : ℕ) → calls p c n ≡ call p (calls p) c n
+    whole n = (call_of_agrees p (slice_get p.functions c.function) n c.function c.arguments c.from c.return c.return (turns (call p) n) (calls p) (turns_calls p n) (λ x st. agree_same n _)).at n (omega arith)
 
 -- ---- loops
 

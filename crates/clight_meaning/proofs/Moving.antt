@@ -108,7 +108,7 @@ module _ (p : TypedProgram Label) (ws : List Work) where
 
   moves_for_turned : (head : t.ForHead Label) (l : Label) (body : Stmt Label) (after : Label) (c : Option (Cond Label)) (st : State)
       → Moves p (for_turned c l body (For head l body after) ws st)
-        (test_if_any p c st (passes l (run p (calls p) body (loop_of p (For head l body after) k) st)) (passes after (k.next st)))
+      (test_if_any p c st (passes l (run p (calls p) body (loop_of p (For head l body after) k) st)) (passes after (k.next st)))
   moves_for_turned head l body after None st = refl
   moves_for_turned head l body after (Some c) st = refl
 
@@ -137,7 +137,6 @@ module _ (p : TypedProgram Label) (ws : List Work) where
   moves_ran (Continue q a) st = refl
   moves_ran (Return q None a) st = refl
   moves_ran (Return q (Some e) a) st = moves_given_back st _
-
 
   moves_chosen : (s : Stmt Label) (b : Bool) (st : State) → Moves p (chosen s b ws st) ((onward p (Wait (Chooser s)) (standing p ws)).outcome b st)
   moves_chosen (If c one arm other) true st = refl

@@ -197,6 +197,6 @@ program structs items variables functions main = record {
 abbrev pub main_alone : List t.Variable' → List (Option t.Expr) → List (t.Stmt Label) → t.TypedProgram Label
 main_alone variables firsts ss = program [] [] variables (function Void 0 0 0 (locals_of firsts) ss ∷ []) 0
   where
-  locals_of : List (Option t.Expr) → List t.Local
-  locals_of [] = []
-  locals_of (e ∷ es) = local e ∷ locals_of es
+    locals_of : List (Option t.Expr) → List t.Local
+    locals_of [] = []
+    locals_of (e ∷ es) = local e ∷ locals_of es
