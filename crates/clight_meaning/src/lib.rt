@@ -13,6 +13,3 @@ pub mod turn;
 
 pub use evaluator::Evaluator;
 pub use turn::Turn;
-
-#[cfg(test)]
-mod tests;

@@ -122,6 +122,3 @@ pub fn label_and_unlabel(alloc: Global, typed: Typed) -> Result<Typed, NoMemory>
     let labelled = label(alloc, typed)?;
     unlabel(alloc, &labelled)
 }
-
-#[cfg(test)]
-mod tests;

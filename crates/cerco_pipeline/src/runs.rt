@@ -1,5 +1,7 @@
-use super::*;
+//! Runs of the evaluator.
+
 use cerco_base::{Event, Label, NoMemory};
+use clight_meaning::{Evaluator, Turn};
 use clight_syntax::tree::{
     BinaryOperator, CallTarget, Declaration, Declared, Header, Name, Parameters, Specifiers,
 };

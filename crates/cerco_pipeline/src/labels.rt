@@ -1,8 +1,11 @@
-use super::*;
-use cerco_base::Label;
+//! Labels given and taken away.
+
+use cerco_base::{Label, NoMemory};
 use clight_syntax::tree::{Declared, Header, Name, Parameters, Specifiers};
-use clight_syntax::typed::{Arguments, Call, Cond, Expr, Function, Item, Stmt, Test};
-use clight_syntax::{Names, Point, Span, Ty};
+use clight_syntax::typed::{Arguments, Call, Cond, Expr, Function, Item, Stmt, Test, TypedProgram};
+use clight_syntax::{Names, Piece, Point, Span, Ty, Typed};
+use cost_labels::{label, label_and_unlabel, unlabel};
+use std::alloc::Global;
 use std::test::Fail;
 
 fn at(from: u32, to: u32) -> Span {

@@ -1,0 +1,9 @@
+//! The stages of the compiler, one after the other: so far only the tests that join several of its crates.
+#![tactic(auto)]
+
+#[cfg(test)]
+mod labels;
+#[cfg(test)]
+mod names;
+#[cfg(test)]
+mod runs;

@@ -1,0 +1,7 @@
+pub mod Parameters
+pub mod Spellings
+pub mod Occurrences
+pub mod Regions
+pub mod NameFaults
+pub mod Knowledge
+pub mod Outcomes
