@@ -7,11 +7,11 @@ use Rattle.cerco_base.specs.declared.events.Event.TheVariants as event
 use Rattle.cerco_base.specs.declared.events.Label.{Label}
 use Rattle.cerco_base.specs.declared.events.FaultKind.{FaultKind}
 use Rattle.cerco_base.specs.Preservation.{and_then}
-use Rattle.clight_syntax.specs.TypedTrees.{Expr, Cond, Truth, InParentheses, Not, Both, Either, Assignment, Stmt, Empty, Block, Assign, ReadPort, WritePort, CallOf, If, IfElse, While, Do, For, Break, Continue, Return, Stmts, NoStmts, Then, Function, TypedProgram}
+use Rattle.clight_syntax.specs.TypedTrees.{Cond, Truth, InParentheses, Not, Both, Either, Assignment, Stmt, Empty, Block, Assign, ReadPort, WritePort, CallOf, If, IfElse, While, Do, For, Break, Continue, Return, Stmts, NoStmts, Then, Function, TypedProgram}
 use Rattle.clight_values.specs.declared.value.Value.{Value}
 use Rattle.clight_values.specs.declared.value.Value.TheVariants as v
 use Rattle.clight_values.specs.Memory.{Answer, State}
-use Rattle.clight_meaning.specs.Meaning.{Rest, says, passes, turns, again, with_value, with_values, with_state, with_truth, with_byte, test, test_if_any, assigned_if_any, Calling, Goes, loop_goes, until, next_of_for, run, run_all, body_goes, prepared, entered, call_of, call, calls}
+use Rattle.clight_meaning.specs.Meaning.{Rest, says, passes, turns, again, with_value, with_values, with_state, with_truth, with_byte, test, test_if_any, Calling, Goes, loop_goes, until, next_of_for, run, run_all, body_goes, prepared, entered, call_of, call, calls}
 
 -- the two tell the same for each budget below m
 pub record Agree (m : ℕ) (r r' : Rest) : Type 0 where
@@ -248,8 +248,8 @@ pub calls_unfold : (p : TypedProgram Label) (c : Calling) → calls p c ≡ call
 unfolding calls again
 calls_unfold p c = λ i n. whole n i
   where
-  whole : (n : ℕ) → calls p c n ≡ call p (calls p) c n
-  whole n = (call_of_agrees p (slice_get p.functions c.function) n c.function c.arguments c.from c.return c.return (turns (call p) n) (calls p) (turns_calls p n) (λ x st. agree_same n _)).at n (omega arith)
+    whole : (n : ℕ) → calls p c n ≡ call p (calls p) c n
+    whole n = (call_of_agrees p (slice_get p.functions c.function) n c.function c.arguments c.from c.return c.return (turns (call p) n) (calls p) (turns_calls p n) (λ x st. agree_same n _)).at n (omega arith)
 
 -- ---- loops
 

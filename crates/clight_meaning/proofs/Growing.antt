@@ -1,17 +1,17 @@
 -- A run that may pass one more label tells the same, and more where it stopped.
-use Rattle.std.proofs.Common.{◌≡◌, Bool, true, false, ℕ, zero, suc, ◌<◌, ◌≤◌, List, [], ◌∷◌, ◌++◌, Option, Some, None, Result, Ok, Err, refl, sym, ap, subst, ◌∙◌, arith}
+use Rattle.std.proofs.Common.{◌≡◌, Bool, true, false, ℕ, zero, suc, ◌<◌, ◌≤◌, List, [], ◌∷◌, Option, Some, None, Result, Ok, Err, refl, sym, ap, subst, ◌∙◌, arith}
 use Rattle.std.specs.Prelude.{slice_get}
-use Rattle.cerco_base.specs.Events.{IsPrefix, Stop, Stopped, Ended}
+use Rattle.cerco_base.specs.Events.{Stopped, Ended}
 use Rattle.cerco_base.specs.Preservation.{Outcome, Stops, Faults, and_then}
 use Rattle.cerco_base.specs.declared.events.Event.{Event}
 use Rattle.cerco_base.specs.declared.events.Event.TheVariants as event
 use Rattle.cerco_base.specs.declared.events.Label.{Label}
 use Rattle.cerco_base.specs.declared.events.FaultKind.{FaultKind}
-use Rattle.clight_syntax.specs.TypedTrees.{Cond, Truth, InParentheses, Not, Both, Either, Assignment, Stmt, Empty, Block, Assign, ReadPort, WritePort, CallOf, If, IfElse, While, Do, For, Break, Continue, Return, Stmts, NoStmts, Then, Function, TypedProgram}
+use Rattle.clight_syntax.specs.TypedTrees.{Cond, Truth, InParentheses, Not, Both, Either, Stmt, Empty, Block, Assign, ReadPort, WritePort, CallOf, If, IfElse, While, Do, For, Break, Continue, Return, Stmts, NoStmts, Then, Function, TypedProgram}
 use Rattle.clight_values.specs.declared.value.Value.{Value}
 use Rattle.clight_values.specs.declared.value.Value.TheVariants as v
 use Rattle.clight_values.specs.Memory.{Answer, State}
-use Rattle.clight_meaning.specs.Meaning.{Rest, only, says, passes, again, with_value, with_values, with_state, with_truth, with_byte, test, test_if_any, Calling, Goes, loop_goes, until, next_of_for, run, run_all, body_goes, prepared, entered, beginning, call_of, call, calls, source}
+use Rattle.clight_meaning.specs.Meaning.{Rest, only, says, passes, again, with_value, with_values, with_state, with_truth, with_byte, test, test_if_any, Calling, Goes, loop_goes, until, next_of_for, run, run_all, body_goes, prepared, entered, beginning, call_of, calls, source}
 use Rattle.clight_meaning.specs.Budgets.{events_told, Extends}
 use Rattle.clight_meaning.proofs.Agreeing.{calls_unfold, while_turn, do_turn, for_turn, while_unfolds, do_unfolds, for_unfolds}
 
@@ -137,20 +137,20 @@ mutual
   run_grows p (While t l x n) m k h i st =
       turns_grow (again (while_turn p (calls p) t.condition l x n k)) (while_turn p (calls p) t.condition l x n k) (while_unfolds p t.condition l x n k) m
       (λ j lt gs st. test_grows p t.condition (suc j) st _ _
-          (passed l j _ (run_grows p x j (loop_goes k n (again (while_turn p (calls p) t.condition l x n k))) (calls_less j m (calls p) (omega arith) h)
-          (loop_grows n j k _ (goes_less j m k (omega arith) i) gs) st))
-          (passed n j _ (less j m _ (omega arith) (i.next st)))) st
+      (passed l j _ (run_grows p x j (loop_goes k n (again (while_turn p (calls p) t.condition l x n k))) (calls_less j m (calls p) (omega arith) h)
+      (loop_grows n j k _ (goes_less j m k (omega arith) i) gs) st))
+      (passed n j _ (less j m _ (omega arith) (i.next st)))) st
   run_grows p (Do q x t l a n) m k h i st =
       turns_grow (again (do_turn p (calls p) x t.condition l n k)) (do_turn p (calls p) x t.condition l n k) (do_unfolds p x t.condition l n k) m
       (λ j lt gs st. run_grows p x (suc j) (loop_goes k n (until p t.condition l n k (again (do_turn p (calls p) x t.condition l n k)))) (calls_less (suc j) m (calls p) (omega arith) h)
-          (loop_grows n (suc j) k _ (goes_less (suc j) m k (omega arith) i)
-          (λ st. test_grows p t.condition (suc j) st _ _ (passed l j _ (gs st)) (passed n j _ (less j m _ (omega arith) (i.next st))))) st) st
+      (loop_grows n (suc j) k _ (goes_less (suc j) m k (omega arith) i)
+      (λ st. test_grows p t.condition (suc j) st _ _ (passed l j _ (gs st)) (passed n j _ (less j m _ (omega arith) (i.next st))))) st) st
   run_grows p (For d l x n) m k h i st =
       state_grows m _ _ (turns_grow (again (for_turn p (calls p) d.condition d.step l x n k)) (for_turn p (calls p) d.condition d.step l x n k) (for_unfolds p d.condition d.step l x n k) m
       (λ j lt gs st. test_if_any_grows p d.condition (suc j) st _ _
-          (passed l j _ (run_grows p x j (loop_goes k n (next_of_for p d.step (again (for_turn p (calls p) d.condition d.step l x n k)))) (calls_less j m (calls p) (omega arith) h)
-          (loop_grows n j k _ (goes_less j m k (omega arith) i) (λ st. state_grows j _ _ gs)) st))
-          (passed n j _ (less j m _ (omega arith) (i.next st)))))
+      (passed l j _ (run_grows p x j (loop_goes k n (next_of_for p d.step (again (for_turn p (calls p) d.condition d.step l x n k)))) (calls_less j m (calls p) (omega arith) h)
+      (loop_grows n j k _ (goes_less j m k (omega arith) i) (λ st. state_grows j _ _ gs)) st))
+      (passed n j _ (less j m _ (omega arith) (i.next st)))))
   run_grows p (Break q a) m k h i st = i.break st
   run_grows p (Continue q a) m k h i st = i.continue st
   run_grows p (Return q None a) m k h i st = i.return _ st

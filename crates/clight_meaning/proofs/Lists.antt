@@ -1,12 +1,10 @@
 -- Walks along lists: what is left to do is that of what is left of the list.
-use Rattle.std.proofs.Common.{◌≡◌, ℕ, suc, ◌+◌, ◌<◌, ◌≤◌, Bool, true, false, List, [], ◌∷◌, ◌++◌, length, drop, map, get_or, Option, Some, None, Result, Ok, Err, refl, sym, ap, subst, ◌∙◌, arith, append_assoc, length-append}
+use Rattle.std.proofs.Common.{◌≡◌, ℕ, suc, ◌+◌, ◌<◌, Bool, true, false, List, [], ◌∷◌, ◌++◌, length, drop, get_or, Result, Ok, Err, refl, sym, ap, ◌∙◌, arith, append_assoc, length-append}
 use Rattle.std.specs.Prelude.{if◌then◌else◌}
-use Rattle.std.proofs.Math.Seq.{drop-cons}
 use Rattle.cerco_base.specs.declared.events.FaultKind.{FaultKind}
 use Rattle.clight_syntax.specs.declared.typed.Variable.{Variable}
 use Rattle.clight_syntax.specs.Types.{type_of}
 use Rattle.clight_syntax.specs.TypedTrees.{Expr, TypedProgram, type_at}
-use Rattle.clight_syntax.specs.TypedViews.{variable_of}
 use Rattle.clight_values.specs.declared.value.Value.{Value}
 use Rattle.clight_meaning.specs.declared.calls.Missing.{Missing}
 use Rattle.clight_meaning.specs.declared.calls.Missing.TheVariants as missing

@@ -1,9 +1,8 @@
 -- What an evaluator does with its first work moves the rest of the run by just what is seen of it.
-use Rattle.std.proofs.Common.{◌≡◌, Bool, true, false, not, ℕ, suc, List, [], ◌∷◌, Option, Some, None, Result, Ok, Err, refl, sym, ap, ◌∙◌}
+use Rattle.std.proofs.Common.{◌≡◌, Bool, true, false, ℕ, List, [], ◌∷◌, Option, Some, None, Result, Ok, Err, refl, ap, ◌∙◌}
 use Rattle.std.specs.Prelude.{slice_get}
-use Rattle.cerco_base.specs.Events.{Stopped, Ended}
+use Rattle.cerco_base.specs.Events.{Ended}
 use Rattle.cerco_base.specs.Preservation.{Stops, Faults}
-use Rattle.cerco_base.specs.declared.events.Event.{Event}
 use Rattle.cerco_base.specs.declared.events.Event.TheVariants as event
 use Rattle.cerco_base.specs.declared.events.Label.{Label}
 use Rattle.cerco_base.specs.declared.events.Port.TheVariants.{P1}
@@ -13,9 +12,9 @@ use Rattle.clight_syntax.specs.TypedTrees.{Cond, Truth, InParentheses, Not, Both
 use Rattle.clight_values.specs.declared.value.Value.{Value}
 use Rattle.clight_values.specs.declared.value.Value.TheVariants as v
 use Rattle.clight_values.specs.Memory.{Answer, State}
-use Rattle.clight_meaning.specs.Meaning.{Rest, only, says, passes, again, with_value, with_values, with_state, with_truth, with_byte, test, test_if_any, Calling, returned, taken, result_type, Goes, loop_goes, next_of_for, run, run_all, body_goes, call_of, call, calls}
-use Rattle.clight_meaning.specs.Evaluation.{Way, ByBreak, ByContinue, ByReturn, Waiting, Chooser, Negation, AndThen, OrElse, Work, Run, All, Turn', Check, Outcome', Wait, Pass, Caller, Take, Leave, Faulty, run_list, Onward, loop_of, next_turns, onward, standing, rest_of, Move, Silent, Says, SaysAndFails, Fails, Ends, quietly, listed, after_read, written, called_of, called, for_turned, for_begun, given_back, ran, turned, broken, chosen, decided, comes_out, outcome_of, checked, left_loop, left_by, begun, stepped}
-use Rattle.clight_meaning.proofs.Agreeing.{calls_unfold, while_turn, do_turn, for_turn, while_unfolds, do_unfolds, for_unfolds}
+use Rattle.clight_meaning.specs.Meaning.{Rest, only, says, passes, again, with_value, with_values, with_state, with_truth, with_byte, test, test_if_any, Calling, returned, taken, result_type, Goes, run, run_all, call_of, call, calls}
+use Rattle.clight_meaning.specs.Evaluation.{Way, ByBreak, ByContinue, ByReturn, Waiting, Chooser, Negation, AndThen, OrElse, Work, Run, All, Turn', Check, Outcome', Wait, Pass, Caller, Take, Leave, Faulty, run_list, loop_of, onward, standing, rest_of, Move, Silent, Says, SaysAndFails, Fails, Ends, quietly, listed, after_read, written, called_of, called, for_turned, for_begun, given_back, ran, turned, broken, chosen, decided, comes_out, outcome_of, checked, left_by, begun, stepped}
+use Rattle.clight_meaning.proofs.Agreeing.{calls_unfold, for_turn, while_unfolds, do_unfolds, for_unfolds}
 
 -- what is seen of the move comes before the rest from there on
 abbrev pub Moves : TypedProgram Label → Move → Rest → Type 0
@@ -108,7 +107,7 @@ module _ (p : TypedProgram Label) (ws : List Work) where
 
   moves_for_turned : (head : t.ForHead Label) (l : Label) (body : Stmt Label) (after : Label) (c : Option (Cond Label)) (st : State)
       → Moves p (for_turned c l body (For head l body after) ws st)
-        (test_if_any p c st (passes l (run p (calls p) body (loop_of p (For head l body after) k) st)) (passes after (k.next st)))
+      (test_if_any p c st (passes l (run p (calls p) body (loop_of p (For head l body after) k) st)) (passes after (k.next st)))
   moves_for_turned head l body after None st = refl
   moves_for_turned head l body after (Some c) st = refl
 
@@ -137,7 +136,6 @@ module _ (p : TypedProgram Label) (ws : List Work) where
   moves_ran (Continue q a) st = refl
   moves_ran (Return q None a) st = refl
   moves_ran (Return q (Some e) a) st = moves_given_back st _
-
 
   moves_chosen : (s : Stmt Label) (b : Bool) (st : State) → Moves p (chosen s b ws st) ((onward p (Wait (Chooser s)) (standing p ws)).outcome b st)
   moves_chosen (If c one arm other) true st = refl

@@ -1,15 +1,14 @@
 -- How the meaning of a program begins: with the call of `main`.
-use Rattle.std.proofs.Common.{◌≡◌, ℕ, List, [], ◌∷◌, Option, Some, None, Result, Ok, Err, refl, sym, ap, ◌∙◌}
+use Rattle.std.proofs.Common.{◌≡◌, ℕ, List, [], Some, None, sym, ap, ◌∙◌}
 use Rattle.std.specs.Prelude.{slice_get}
 use Rattle.cerco_base.specs.Events.{Stopped, Ended}
-use Rattle.cerco_base.specs.Preservation.{Stops, Faults}
+use Rattle.cerco_base.specs.Preservation.{Stops}
 use Rattle.cerco_base.specs.declared.events.Label.{Label}
-use Rattle.cerco_base.specs.declared.events.FaultKind.{FaultKind}
-use Rattle.clight_syntax.specs.TypedTrees.{Stmt, Function, TypedProgram}
+use Rattle.clight_syntax.specs.TypedTrees.{Function, TypedProgram}
 use Rattle.clight_values.specs.declared.value.Value.{Value}
 use Rattle.clight_values.specs.Memory.{State}
-use Rattle.clight_meaning.specs.Meaning.{Rest, only, passes, with_state, Calling, Goes, run_all, body_goes, entered, prepared, beginning, call_of, calls, source}
-use Rattle.clight_meaning.specs.Evaluation.{Work, Pass, All, Faulty, run_list, standing, rest_of, listed}
+use Rattle.clight_meaning.specs.Meaning.{Rest, only, passes, with_state, Calling, Goes, body_goes, entered, prepared, beginning, call_of, calls, source}
+use Rattle.clight_meaning.specs.Evaluation.{run_list, standing, rest_of, listed}
 use Rattle.clight_meaning.specs.declared.running.Work.{Work as HeldWork}
 use Rattle.clight_meaning.specs.Holding.{works_held}
 use Rattle.clight_meaning.proofs.Agreeing.{calls_unfold}

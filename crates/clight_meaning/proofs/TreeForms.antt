@@ -1,5 +1,5 @@
 -- Typed trees written by hand, for examples: forms whose places in a source don't matter.
-use Rattle.std.proofs.Common.{ℕ, Bool, true, false, List, [], ◌∷◌, Option, Some, None}
+use Rattle.std.proofs.Common.{ℕ, true, false, List, [], ◌∷◌, Option, Some, None}
 use Rattle.cerco_base.specs.declared.events.Label.{Label}
 use Rattle.cerco_base.specs.declared.events.Event.{Event}
 use Rattle.cerco_base.specs.declared.events.Event.TheVariants as event
@@ -13,11 +13,10 @@ use Rattle.clight_syntax.specs.declared.tree.SignedNumber.{SignedNumber}
 use Rattle.clight_syntax.specs.declared.tree.Specifiers.TheVariants as words
 use Rattle.clight_syntax.specs.declared.symbol.Radix.TheVariants.{Decimal}
 use Rattle.clight_syntax.specs.declared.typed.Home.{Home}
-use Rattle.clight_syntax.specs.declared.typed.Home.TheVariants.{Global, Block, Scalar}
 use Rattle.clight_syntax.specs.declared.typed.ResultTarget.{ResultTarget}
 use Rattle.clight_syntax.specs.Conversions.{unsigned_char, unsigned_int}
 use Rattle.clight_syntax.specs.Trees as tree
-use Rattle.clight_syntax.specs.Types.{One, Two, Four, CType, Void, Integer, Pointer, Array, Struct, StructType}
+use Rattle.clight_syntax.specs.Types.{One, CType, Void, Integer, Pointer, StructType}
 use Rattle.clight_syntax.specs.TypedTrees as t
 
 abbrev pub nowhere : Span
@@ -197,6 +196,6 @@ program structs items variables functions main = record {
 abbrev pub main_alone : List t.Variable' → List (Option t.Expr) → List (t.Stmt Label) → t.TypedProgram Label
 main_alone variables firsts ss = program [] [] variables (function Void 0 0 0 (locals_of firsts) ss ∷ []) 0
   where
-  locals_of : List (Option t.Expr) → List t.Local
-  locals_of [] = []
-  locals_of (e ∷ es) = local e ∷ locals_of es
+    locals_of : List (Option t.Expr) → List t.Local
+    locals_of [] = []
+    locals_of (e ∷ es) = local e ∷ locals_of es

@@ -1,6 +1,6 @@
 -- Parts of lists.
-use Rattle.std.proofs.Common.{◌≡◌, ℕ, ◌+◌, ◌≤◌, ◌<◌, List, length, take, drop, map, sym, ap, ◌∙◌, ◌⊎◌, inl, inr, arith, length-take, length-drop}
-use Rattle.std.proofs.lemmas.List.{take_all, take-map, drop-map, length-map}
+use Rattle.std.proofs.Common.{◌≡◌, ℕ, ◌+◌, ◌≤◌, ◌<◌, List, length, take, drop, sym, ap, ◌∙◌, inl, inr, arith, length-take, length-drop}
+use Rattle.std.proofs.lemmas.List.{take_all}
 use Rattle.std.proofs.lemmas.Bool.{cases_lt}
 
 module _ {A : Type 0} (xs : List A) (p l a b : ℕ) (first : a ≡ length (take p xs)) (second : b ≡ length (take l (drop a xs))) where

@@ -1,8 +1,8 @@
 -- What an evaluator has left to do, as a list of work with the newest first, and what it does with the first of it. The list stands
 -- for what goes on after each of its parts, and so for the rest of a run.
-use Rattle.std.specs.Prelude.{◌≡◌, ℕ, suc, ◌+◌, Bool, true, false, not, List, [], ◌∷◌, ◌++◌, Option, Some, None, Result, Ok, Err, slice_get}
-use Rattle.cerco_base.specs.Events.{Stopped, Ended}
-use Rattle.cerco_base.specs.Preservation.{Outcome, Stops, Faults, and_then}
+use Rattle.std.specs.Prelude.{ℕ, Bool, true, false, not, List, [], ◌∷◌, Option, Some, None, Result, Ok, Err, slice_get}
+use Rattle.cerco_base.specs.Events.{Ended}
+use Rattle.cerco_base.specs.Preservation.{Stops, Faults}
 use Rattle.cerco_base.specs.declared.events.Event.{Event}
 use Rattle.cerco_base.specs.declared.events.Event.TheVariants as event
 use Rattle.cerco_base.specs.declared.events.Label.{Label}
@@ -14,13 +14,11 @@ use Rattle.clight_syntax.specs.Conversions.{unsigned_char}
 use Rattle.clight_syntax.specs.Types.{CType}
 use Rattle.clight_syntax.specs.TypedTrees as t
 use Rattle.clight_syntax.specs.TypedTrees.{type_at, Cond, Truth, InParentheses, Not, Both, Either, Stmt, Empty, Block, Assign, ReadPort, WritePort, CallOf, If, IfElse, While, Do, For, Break, Continue, Return, Stmts, NoStmts, Then, Function, TypedProgram}
-use Rattle.clight_meaning.specs.declared.turn.Turn.{Turn}
-use Rattle.clight_meaning.specs.declared.turn.Turn.TheVariants as turn
 use Rattle.clight_values.specs.declared.value.Value.{Value}
 use Rattle.clight_values.specs.declared.value.Value.TheVariants as v
-use Rattle.clight_values.specs.Memory.{Answer, initial, is_true, Frame, State}
+use Rattle.clight_values.specs.Memory.{Answer, initial, Frame, State}
 use Rattle.clight_meaning.specs.Expressions.{position, value}
-use Rattle.clight_meaning.specs.Meaning.{Rest, only, says, passes, again, truth_of, test, test_if_any, assigned, assigned_if_any, assigned_to, converted_answer, first_of, after_reading, argument_list, argument_values, first_parameter, entered, returned, prepared, result_type, taken, with_state, Goes, loop_goes, until, next_of_for, run, run_all, body_goes, calls}
+use Rattle.clight_meaning.specs.Meaning.{Rest, only, passes, truth_of, test, assigned, assigned_if_any, assigned_to, converted_answer, first_of, after_reading, argument_list, argument_values, first_parameter, entered, returned, prepared, result_type, taken, with_state, Goes, loop_goes, until, next_of_for, run, body_goes, calls}
 
 -- ---- work
 

@@ -1,21 +1,18 @@
 -- The values of expressions (ISO/IEC 9899:1999, 6.3 and 6.5) and the faults at which the standard leaves the behaviour undefined.
 -- Expressions change nothing. They are evaluated from left to right, and the first fault is their answer. The definitions are
 -- total: what no typed program holds is a fault, or nothing.
-use Rattle.std.specs.Prelude.{ℕ, zero, suc, ◌+◌, Bool, true, false, not, List, Option, Some, None, Result, Ok, Err, if◌then◌else◌, slice_get, slice_set, unwrap_or}
+use Rattle.std.specs.Prelude.{ℕ, ◌+◌, false, Option, Some, None, Result, Ok, Err, if◌then◌else◌, slice_get, slice_set, unwrap_or}
 use Rattle.cerco_base.specs.declared.events.FaultKind.{FaultKind}
 use Rattle.cerco_base.specs.declared.events.FaultKind.TheVariants.{Outside}
-use Rattle.clight_syntax.specs.declared.tree.BinaryOperator.{BinaryOperator}
-use Rattle.clight_syntax.specs.declared.tree.BinaryOperator.TheVariants as op
 use Rattle.clight_syntax.specs.declared.tree.PrefixOperator.TheVariants.{Negate, Complement, Not, Dereference, AddressOf}
 use Rattle.clight_syntax.specs.declared.tree.MemberOperator.TheVariants.{Dot, Arrow}
 use Rattle.clight_syntax.specs.declared.typed.Home.{Home}
 use Rattle.clight_syntax.specs.declared.typed.Home.TheVariants.{Global, Block, Scalar}
-use Rattle.clight_syntax.specs.Types.{CType, Void, Integer, Pointer, Array, StructType, size_of}
+use Rattle.clight_syntax.specs.Types.{CType}
 use Rattle.clight_syntax.specs.TypedTrees.{Expr, Variable, Number, Parenthesis, Binary, Prefix, Cast, Index, Select, type_at, Variable', TypedProgram}
 use Rattle.clight_values.specs.declared.value.Value.{Value}
 use Rattle.clight_values.specs.declared.value.Value.TheVariants as v
-use Rattle.clight_values.specs.Values.{IntegerType, converted, promoted, difference, complement, truth, combined}
-use Rattle.clight_values.specs.Memory.{Answer, Memory, Frame, State, load, stored, moved, stepped, equal, less}
+use Rattle.clight_values.specs.Memory.{Answer, Memory, Frame, State, load, stored, moved}
 use Rattle.clight_values.specs.Operators.{integer_type, is_array, assigned_value, then_value, both, operated, negated, complemented, indexed}
 
 -- ---- places

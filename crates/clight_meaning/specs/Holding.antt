@@ -1,6 +1,5 @@
 -- What a run holds, as the definitions of an evaluation speak of it, and what a part of a step does to it.
-use Rattle.std.specs.Prelude.{◌≡◌, ℕ, List, [], ◌∷◌, map, Option, Some, None}
-use Rattle.cerco_base.specs.declared.events.Event.{Event}
+use Rattle.std.specs.Prelude.{◌≡◌, List, [], ◌∷◌, map, Option, Some, None}
 use Rattle.cerco_base.specs.declared.events.FaultKind.{FaultKind}
 use Rattle.cerco_base.specs.declared.events.Label.{Label}
 use Rattle.clight_syntax.specs.Types.{type_of}

@@ -10,21 +10,16 @@ use Rattle.cerco_base.specs.declared.events.Label.{Label}
 use Rattle.cerco_base.specs.declared.events.Port.TheVariants.{P1}
 use Rattle.cerco_base.specs.declared.events.FaultKind.{FaultKind}
 use Rattle.cerco_base.specs.declared.events.FaultKind.TheVariants.{Outside}
-use Rattle.clight_syntax.specs.declared.tree.SignedNumber.{SignedNumber}
-use Rattle.clight_syntax.specs.declared.symbol.Literal.{Literal}
-use Rattle.clight_syntax.specs.declared.span.Span.{Span}
 use Rattle.clight_syntax.specs.declared.typed.Home.{Home}
 use Rattle.clight_syntax.specs.declared.typed.Home.TheVariants as home
 use Rattle.clight_syntax.specs.declared.typed.ResultTarget.{ResultTarget}
-use Rattle.clight_syntax.specs.declared.tree.EarlierNumber.{EarlierNumber}
-use Rattle.clight_syntax.specs.Trees.{Global, Initialiser, NoInitialiser, Single, Listed}
+use Rattle.clight_syntax.specs.Trees.{Global}
 use Rattle.clight_syntax.specs.Conversions.{unsigned_char}
-use Rattle.clight_syntax.specs.Types.{One, CType, Void, Integer, Pointer, StructType}
+use Rattle.clight_syntax.specs.Types.{CType, Void}
 use Rattle.clight_syntax.specs.TypedTrees.{Expr, type_at, Cond, Truth, InParentheses, Not, Both, Either, Assignment, EarlierArgument, Arguments, NoArguments, Arguments', Stmt, Empty, Block, Assign, ReadPort, WritePort, CallOf, If, IfElse, While, Do, For, Break, Continue, Return, Stmts, NoStmts, Then, LocalInitialiser, NoValue, Value, Local, Function, Item, StructItem, GlobalItem, PrototypeItem, FunctionItem, Variable', TypedProgram}
 use Rattle.clight_values.specs.declared.value.Value as w
 use Rattle.clight_values.specs.declared.value.Value.TheVariants as v
-use Rattle.clight_values.specs.Values.{converted, difference, literal_type}
-use Rattle.clight_values.specs.Memory.{is_scalar, own_blocks, Answer, Cell, Memory, Kinds, kinds_of, initial, is_true, with_blocks, unset, left, Frame, State}
+use Rattle.clight_values.specs.Memory.{is_scalar, own_blocks, Answer, Cell, Memory, kinds_of, initial, is_true, with_blocks, left, Frame, State}
 use Rattle.clight_values.specs.Globals.{filled, numbers_of}
 use Rattle.clight_values.specs.Operators.{then_value, assigned_value}
 use Rattle.clight_meaning.specs.Expressions.{Position, home_position, variable_position, stored_in, position, value}

@@ -1,27 +1,16 @@
 -- What the evaluator holds, as the definitions speak of it.
-use Rattle.std.specs.Prelude.{◌≡◌, ℕ, List, map, option_map, Option, Some, None, Result, Ok, Err}
-use Rattle.std.specs.Borrow.{Bor}
+use Rattle.std.specs.Prelude.{option_map, Option, Result, Ok, Err}
 use Rattle.cerco_base.specs.declared.events.FaultKind.{FaultKind}
-use Rattle.clight_syntax.specs.Types as s
-use Rattle.clight_syntax.specs.declared.typed.StructType.{StructType}
-use Rattle.clight_syntax.specs.TypedViews.{struct_type_of, variable_of, assignment_of}
+use Rattle.clight_syntax.specs.TypedViews.{assignment_of}
 use Rattle.clight_syntax.specs.TypedTrees as t
 use Rattle.clight_syntax.specs.declared.typed.Assignment.{Assignment}
 use Rattle.clight_syntax.specs.TypedTrees.{Variable'}
-use Rattle.clight_syntax.specs.declared.typed.Variable.{Variable}
 use Rattle.clight_values.specs.Memory as m
-use Rattle.clight_values.specs.declared.memory.Cell.{Cell}
-use Rattle.clight_values.specs.declared.memory.Memory.{Memory}
-use Rattle.clight_syntax.specs.declared.types.Ty.{Ty}
 use Rattle.clight_meaning.specs.Expressions as e
 use Rattle.clight_meaning.specs.declared.state.Frame.{Frame}
 use Rattle.clight_meaning.specs.declared.state.State.{State}
 use Rattle.clight_meaning.specs.declared.state.Position.{Position}
 use Rattle.clight_meaning.specs.declared.state.Position.TheVariants.{InCall, Behind}
-use Rattle.clight_values.specs.declared.integer.Size.{Size}
-use Rattle.clight_values.specs.declared.integer.Size.TheVariants.{One, Two, Four}
-use Rattle.clight_values.specs.declared.integer.IntegerType.{IntegerType}
-use Rattle.clight_values.specs.Values as v
 use Rattle.clight_values.specs.Views.{memory_held, type_held}
 
 abbrev pub frame_held : Frame → m.Frame

@@ -43,10 +43,7 @@ fn begin_item<'a>(
 }
 
 /// The globals with their first values.
-fn globals<'a>(
-    alloc: Global,
-    program: &'a TypedProgram<Label>,
-) -> Result<Memory<'a>, NoMemory>
+fn globals<'a>(alloc: Global, program: &'a TypedProgram<Label>) -> Result<Memory<'a>, NoMemory>
     ensures { IfOk result (λ memory. memory_held memory ≡ m.with_blocks 0 (e.global_blocks (program_of program.now) (program_of program.now).items) (record { cells = []; blocks = [] })) }
 {
     let mut memory = Memory::new(alloc);

@@ -10,16 +10,16 @@ ghost use Rattle.clight_meaning.specs.Missing.{MayMiss, AddsArgument};
 ghost use Rattle.clight_values.specs.Views.{Makes, memory_held, structs_held, variables_held};
 ghost use Rattle.clight_meaning.specs.Views.{frame_held, state_held};
 
-use clight_values::lookup::{first_items, item_at, items_from};
-use clight_values::memory::{initial, is_scalar, Memory};
-use crate::state::{type_at, Frame, State};
+use crate::state::{Frame, State, type_at};
 use crate::statements::{converted_to, variable_type};
-use clight_values::value::Value;
 use cerco_base::{FaultKind, Label, NoMemory};
+use clight_syntax::Ty;
 use clight_syntax::typed::{
     Arguments, Expr, Function, Home, Local, LocalInitialiser, StructType, TypedProgram, Variable,
 };
-use clight_syntax::Ty;
+use clight_values::lookup::{first_items, item_at, items_from};
+use clight_values::memory::{Memory, initial, is_scalar};
+use clight_values::value::Value;
 use std::alloc::Global;
 use std::mem;
 

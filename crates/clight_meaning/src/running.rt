@@ -15,17 +15,17 @@ ghost use Rattle.clight_meaning.specs.Views.{frame_held, state_held};
 ghost use Rattle.cerco_base.specs.declared.events.FaultKind.{FaultKind};
 
 use crate::calls::Missing;
-use clight_values::lookup::item_at;
-use crate::state::{type_at, Frame, State};
+use crate::state::{Frame, State, type_at};
 use crate::statements::{converted_to, initial_of};
-use clight_values::operators::integer_type;
 use crate::turn::Turn;
-use clight_values::value::Value;
 use cerco_base::{Event, FaultKind, Label, NoMemory, Port};
+use clight_syntax::Ty;
 use clight_syntax::typed::{
     Assignment, Call, Cond, Expr, ForHead, Function, ResultTarget, Stmt, Test, TypedProgram,
 };
-use clight_syntax::Ty;
+use clight_values::lookup::item_at;
+use clight_values::operators::integer_type;
+use clight_values::value::Value;
 use std::alloc::Global;
 
 /// How a statement is left, but by its end.
@@ -132,7 +132,11 @@ impl<'a> Running<'a> {
     }
 
     /// Waits for the outcome of the condition of a statement.
-    fn choose(&mut self, s: &'a Stmt<Label>, condition: &'a Cond<Label>) -> Result<Option<Turn>, NoMemory>
+    fn choose(
+        &mut self,
+        s: &'a Stmt<Label>,
+        condition: &'a Cond<Label>,
+    ) -> Result<Option<Turn>, NoMemory>
         ensures { IfOk result (λ t. Does (n.Silent (n.Check (cond_of condition.now) ∷ n.Wait (n.Chooser (stmt_of s.now)) ∷ works_held self.old.work.items) (state_held self.old.state)) t self.old self.new) }
     {
         self.push(Work::Statement(Task::Choose, s))?;
@@ -170,7 +174,10 @@ impl<'a> Running<'a> {
         let from = Ty::U8;
         let value = Ok(Value::Integer(u32::from(byte)));
         let event = Some(Turn::Event(Event::Read(Port::P1, byte)));
-        match self.state.assign_to(type_at(target), position, &from, value) {
+        match self
+            .state
+            .assign_to(type_at(target), position, &from, value)
+        {
             Err(kind) => {
                 self.push(Work::Faulty(kind))?;
                 Ok(event)
@@ -419,9 +426,9 @@ impl<'a> Running<'a> {
             None => 0,
             Some(function) => function.first_variable,
         };
-        let arguments =
-            self.state
-                .argument_values(self.alloc, self.program, &call.arguments, first);
+        let arguments = self
+            .state
+            .argument_values(self.alloc, self.program, &call.arguments, first);
         match arguments {
             Err(Missing::Memory) => Err(NoMemory),
             Err(Missing::Fault(kind)) => self.fault(kind),

@@ -9,14 +9,16 @@ ghost use Rattle.clight_meaning.specs.Expressions as e;
 ghost use Rattle.clight_values.specs.Views.{Becomes, integer_held, integers_held, variables_held, memory_held, structs_held};
 ghost use Rattle.clight_meaning.specs.Views.{frame_held, position_held, positions_held, state_held};
 
-use clight_values::lookup::item_at;
-use clight_values::memory::{size_of as bytes_in, Memory};
-use clight_values::operators::{complemented_answer, converted_answer, integer_type, is_array, negated_answer};
-use clight_values::value::{Place, Value};
 use cerco_base::{FaultKind, Label};
+use clight_syntax::Ty;
 use clight_syntax::tree::{BinaryOperator, MemberOperator, PrefixOperator};
 use clight_syntax::typed::{Expr, Home, StructType, TypedProgram, Variable};
-use clight_syntax::Ty;
+use clight_values::lookup::item_at;
+use clight_values::memory::{Memory, size_of as bytes_in};
+use clight_values::operators::{
+    complemented_answer, converted_answer, integer_type, is_array, negated_answer,
+};
+use clight_values::value::{Place, Value};
 
 /// What the running call has for itself.
 #[derive(Drop)]
@@ -151,7 +153,12 @@ impl<'a> State<'a> {
     }
 
     /// Stores a value of this type at a place. After a fault nothing has changed.
-    pub(crate) fn store(&mut self, ty: &Ty, position: Position, value: Value) -> Result<(), FaultKind>
+    pub(crate) fn store(
+        &mut self,
+        ty: &Ty,
+        position: Position,
+        value: Value,
+    ) -> Result<(), FaultKind>
         ensures { Becomes (e.stored_in (type_of ty.now) (position_held position) value (state_held self.old)) (state_held self.old) (state_held self.new) result }
     {
         match position {
@@ -185,7 +192,10 @@ impl<'a> State<'a> {
     {
         match expression {
             Expr::Variable(_, number, _) => {
-                Ok(self.frame.variable_position(&program.variables, *number as usize))
+                Ok(
+                    self.frame
+                        .variable_position(&program.variables, *number as usize),
+                )
             }
             Expr::Parenthesis(_, _, inner, _) => self.position(program, inner),
             Expr::Prefix(_, operator, _, inner) => match operator {
@@ -222,7 +232,9 @@ impl<'a> State<'a> {
     {
         match expression {
             Expr::Variable(ty, number, _) => {
-                let position = self.frame.variable_position(&program.variables, *number as usize);
+                let position = self
+                    .frame
+                    .variable_position(&program.variables, *number as usize);
                 self.value_at(ty, Ok(position))
             }
             Expr::Number(_, literal, _) => Ok(Value::Integer(literal.value)),

@@ -7,14 +7,14 @@ ghost use Rattle.clight_meaning.specs.Meaning as n;
 ghost use Rattle.clight_values.specs.Views.{Makes, type_held, variables_held};
 ghost use Rattle.clight_meaning.specs.Views.{assignments_held, positions_held, state_held};
 
+use crate::state::{Position, State, type_at};
+use cerco_base::{FaultKind, Label};
+use clight_syntax::Ty;
+use clight_syntax::typed::{Assignment, Expr, ResultTarget, TypedProgram, Variable};
 use clight_values::lookup::item_at;
 use clight_values::memory::initial;
-use crate::state::{type_at, Position, State};
 use clight_values::operators::converted_answer;
 use clight_values::value::Value;
-use cerco_base::{FaultKind, Label};
-use clight_syntax::typed::{Assignment, Expr, ResultTarget, TypedProgram, Variable};
-use clight_syntax::Ty;
 
 /// The type of the variable with this number, if there is one.
 pub(crate) fn variable_type(variables: &[Variable], number: usize) -> Option<&Ty>

@@ -1,4 +1,4 @@
-use Rattle.std.proofs.Common.{◌≡◌, drop, map, [], Vec}
+use Rattle.std.proofs.Common.{◌≡◌, drop, map, []}
 use Rattle.clight_syntax.specs.TypedViews.{item_of, program_of}
 use Rattle.clight_values.specs.Memory.{with_blocks}
 use Rattle.clight_values.specs.Views.{memory_held}

@@ -1,4 +1,4 @@
-use Rattle.std.proofs.Common.{subst, sym, ◌∙◌, ap}
+use Rattle.std.proofs.Common.{subst, sym, ◌∙◌}
 use Rattle.clight_meaning.specs.Holding.{Does}
 use Rattle.clight_meaning.specs.Turns.{Tells, rest_held}
 use Rattle.clight_meaning.proofs.Telling.{the_move, step_tells, step_silent, step_lessens}
