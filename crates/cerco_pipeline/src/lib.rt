@@ -4,6 +4,8 @@
 #[cfg(test)]
 mod labels;
 #[cfg(test)]
+mod layouts;
+#[cfg(test)]
 mod names;
 #[cfg(test)]
 mod runs;

@@ -1,4 +1,3 @@
-pub mod Parameters
 pub mod Spellings
 pub mod Occurrences
 pub mod Regions

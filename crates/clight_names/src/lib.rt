@@ -11,3 +11,4 @@ pub mod regions;
 mod statements;
 
 pub use judge::check_names;
+pub use kinds::main_name;

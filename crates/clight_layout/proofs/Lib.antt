@@ -1,0 +1,5 @@
+pub mod Appending
+pub mod OrderSums
+pub mod Measures
+pub mod Ranges
+mod LayoutExamples

@@ -1,0 +1,14 @@
+use Rattle.std.proofs.Common.{◌≡◌, ◌+◌, ◌≤◌, map, drop}
+use Rattle.std.specs.Prelude.{min}
+use Rattle.clight_syntax.specs.Types.{type_of}
+use Rattle.clight_syntax.specs.TypedViews.{struct_type_of}
+use Rattle.clight_typing.specs.Declarations.{bytes_of}
+use Rattle.clight_typing.specs.Held.{size_cap}
+use Rattle.clight_typing.proofs.headers.parameter_bytes.Given as goal
+
+abbrev pub invariant-loop-ty : goal.invariant-loop-ty
+invariant-loop-ty l = record {
+  capped : l.bytes ≤ size_cap;
+  rest : min (bytes_of (map struct_type_of l.structs) (map type_of l.types)) size_cap
+      ≡ min (l.bytes + bytes_of (map struct_type_of l.structs) (map type_of (drop l.ty-index l.types))) size_cap;
+}

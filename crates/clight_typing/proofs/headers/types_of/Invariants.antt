@@ -1,0 +1,7 @@
+use Rattle.std.proofs.Common.{◌≡◌, map}
+use Rattle.clight_syntax.specs.Types.{type_of}
+use Rattle.clight_typing.specs.HeldOwn.{own_of}
+use Rattle.clight_typing.proofs.headers.types_of.Given as goal
+
+abbrev pub invariant-loop-own : goal.invariant-loop-own
+invariant-loop-own l = map type_of l.types.items ≡ map (λ own. own.type) (map own_of l.yielded)

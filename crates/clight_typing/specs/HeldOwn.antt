@@ -1,0 +1,17 @@
+-- Parameters and locals as the checker holds them.
+use Rattle.std.specs.Prelude.{List, map}
+use Rattle.clight_syntax.specs.Types.{type_of}
+use Rattle.clight_syntax.specs.Trees.{Declared, Parameters'}
+use Rattle.clight_syntax.specs.Views.{declared_of, earlier_parameter_of}
+use Rattle.clight_syntax.specs.declared.tree.Declared.{Declared as HeldDeclared}
+use Rattle.clight_syntax.specs.declared.tree.EarlierParameter.{EarlierParameter}
+use Rattle.clight_typing.specs.Declarations.{parameters_of}
+use Rattle.clight_typing.specs.Functions.{Own}
+use Rattle.clight_typing.specs.declared.headers.Own.{Own as HeldOwn}
+
+abbrev pub own_of : HeldOwn → Own
+own_of x = record { name = x.name; type = type_of x.ty }
+
+-- all parameters, where these stand before the last one
+abbrev pub listed : List EarlierParameter → HeldDeclared → List Declared
+listed earlier last = parameters_of (Parameters' (map earlier_parameter_of earlier) (declared_of last))

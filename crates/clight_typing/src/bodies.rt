@@ -1,0 +1,111 @@
+//! The typed trees of the statements that depend on their function: readings of the port, calls' targets, jumps and returns
+//! (ISO/IEC 9899:1999, 6.8.6).
+ghost use Rattle.std.specs.Prelude.{◌≡◌};
+ghost use Rattle.std.specs.Option.{option_map};
+ghost use Rattle.clight_syntax.specs.Types.{type_of};
+ghost use Rattle.clight_syntax.specs.Views.{expr_of as source_of, for_head_of as for_source_of};
+ghost use Rattle.clight_syntax.specs.TypedViews.{expr_of, stmt_of, for_head_of};
+ghost use Rattle.clight_typing.specs.HeldBody.{body_for};
+ghost use Rattle.clight_typing.specs.HeldScopes.{scope_of, signature_for};
+ghost use Rattle.clight_typing.specs.Outcomes.{Gives};
+ghost use Rattle.clight_typing.specs.Statements.{reads_into as reads_into_lem, is_own as is_own_lem, takes_result as takes_result_lem};
+ghost use Rattle.clight_typing.specs.TypedStatements.{typed_reading as typed_reading_lem, read_port as read_port_lem, typed_return as typed_return_lem, jump as jump_lem, typed_for as typed_for_lem};
+
+use crate::integers::integer_of;
+use crate::judged::refused;
+use crate::operands::carried;
+use crate::scope::{Scope, Signature};
+use crate::statements::{Body, is_assignable_to, is_scalar, variable_of};
+use crate::types::same_type;
+use cerco_base::{Fault, TypeKind};
+use clight_syntax::typed::{Expr, ForHead, Stmt};
+use clight_syntax::{Span, Ty, tree};
+
+impl Body<'_> {
+    /// Whether a variable is a parameter or local of the function, and its address isn't taken.
+    pub fn is_own(&self, variable: u32) -> bool
+        ensures { result ≡ is_own_lem (body_for self.now) variable }
+    {
+        self.first_variable <= variable && !self.addressed.contains(&variable)
+    }
+
+    /// Whether a port may be read into an expression.
+    fn reads_into(&self, target: &Expr) -> bool
+        ensures { result ≡ reads_into_lem (body_for self.now) (expr_of target.now) }
+    {
+        match variable_of(target) {
+            Some(variable) => self.is_own(variable) && integer_of(carried(target)).is_some(),
+            None => false,
+        }
+    }
+
+    /// A reading of the port into a typed target. Refused with `Port` where it can't take it.
+    fn read_port(
+        &self,
+        target: Option<Expr>,
+        equals: Span,
+        port: Span,
+        semicolon: Span,
+    ) -> Result<Stmt<()>, Fault>
+        ensures { Gives stmt_of result (read_port_lem (body_for self.now) (option_map expr_of target) equals port semicolon) }
+    {
+        match target {
+            Some(target) => {
+                if !self.reads_into(&target) {
+                    return Err(refused(equals.from, TypeKind::Port));
+                }
+                Ok(Stmt::ReadPort(target, equals, port, semicolon))
+            }
+            None => Err(refused(equals.from, TypeKind::Port)),
+        }
+    }
+
+    /// `target = P1;` Refused at its first node without a type.
+    pub fn typed_reading(
+        &self,
+        target: &tree::Expr,
+        equals: Span,
+        port: Span,
+        semicolon: Span,
+    ) -> Result<Stmt<()>, Fault>
+        ensures { Gives stmt_of result (typed_reading_lem (body_for self.now) (source_of target.now) equals port semicolon) }
+    {
+        let e = self.scope.typed_place(target)?;
+        self.read_port(e, equals, port, semicolon)
+    }
+
+    /// `break;` and `continue;` Refused with `Jump` outside a loop.
+    pub fn jump(&self, keyword: Span, statement: Stmt<()>) -> Result<Stmt<()>, Fault>
+        ensures { Gives stmt_of result (jump_lem (body_for self.now) keyword (stmt_of statement)) }
+    {
+        if self.in_loop {
+            return Ok(statement);
+        }
+        Err(refused(keyword.from, TypeKind::Jump))
+    }
+
+    /// `return;` and `return value;` Refused at its first node without a type, with `Return` where the value doesn't fit the
+    /// function's result.
+    pub fn typed_return(
+        &self,
+        keyword: Span,
+        value: Option<&tree::Expr>,
+        semicolon: Span,
+    ) -> Result<Stmt<()>, Fault>
+        ensures { Gives stmt_of result (typed_return_lem (body_for self.now) keyword (option_map (λ x. source_of x.now) value.entry) semicolon) }
+    {
+        match value {
+            None => match self.result {
+                Ty::Void => Ok(Stmt::Return(keyword, None, semicolon)),
+                _ => Err(refused(keyword.from, TypeKind::Return)),
+            },
+            Some(value) => {
+                let e = self.scope.typed_value(value)?;
+                if !is_assignable_to(&e, self.result) {
+                    return Err(refused(keyword.from, TypeKind::Return));
+                }
+                Ok(Stmt::Return(keyword, Some(e), semicolon))
+            }
+        }
+    }
+}

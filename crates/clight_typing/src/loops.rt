@@ -1,0 +1,107 @@
+//! The typed head of a `for`, and the variable that takes a call's result (ISO/IEC 9899:1999, 6.5.2.2 and 6.8.5.3).
+ghost use Rattle.std.specs.Prelude.{◌≡◌};
+ghost use Rattle.std.specs.Option.{option_map};
+ghost use Rattle.clight_syntax.specs.Types.{type_of};
+ghost use Rattle.clight_syntax.specs.Views.{expr_of as source_of, assignment_of as assignment_source_of, for_head_of as for_source_of};
+ghost use Rattle.clight_syntax.specs.TypedViews.{assignment_of, cond_of, for_head_of};
+ghost use Rattle.clight_typing.specs.HeldBody.{body_for};
+ghost use Rattle.clight_typing.specs.HeldScopes.{scope_of, signature_for};
+ghost use Rattle.clight_typing.specs.Operands.{is_assignable};
+ghost use Rattle.clight_typing.specs.Outcomes.{Gives};
+ghost use Rattle.clight_typing.specs.Statements.{result_operand, takes_result as takes_result_lem};
+ghost use Rattle.clight_typing.specs.TypedStatements.{optional, typed_assignment as typed_assignment_lem, typed_for as typed_for_lem, typed_target as typed_target_lem};
+ghost use Rattle.clight_typing.specs.TypedExpressions.{typed_condition as typed_condition_lem};
+
+use crate::integers::integer_of;
+use crate::judged::refused;
+use crate::scope::{Meaning, Scope, Signature};
+use crate::statements::{Body, is_scalar};
+use crate::types::same_type;
+use cerco_base::{Fault, TypeKind};
+use clight_syntax::tree::{self, CallTarget};
+use clight_syntax::typed::{Assignment, ForHead, ResultTarget};
+use clight_syntax::{Cond, Ty};
+
+impl Scope {
+    /// An assignment, if there is one. Refused at its first node without a type.
+    fn optional_assignment(&self, x: &Option<tree::Assignment>) -> Result<Option<Assignment>, Fault>
+        ensures { Gives (option_map assignment_of) result (optional (typed_assignment_lem (scope_of self.now)) (option_map assignment_source_of x.now)) }
+    {
+        match x {
+            Some(assignment) => {
+                let typed = self.typed_assignment(assignment)?;
+                Ok(Some(typed))
+            }
+            None => Ok(None),
+        }
+    }
+
+    /// A condition, if there is one. Refused at its first node without a type.
+    fn optional_condition(&self, x: &Option<tree::Expr>) -> Result<Option<Cond<()>>, Fault>
+        ensures { Gives (option_map cond_of) result (optional (typed_condition_lem (scope_of self.now)) (option_map source_of x.now)) }
+    {
+        match x {
+            Some(condition) => {
+                let typed = self.typed_condition(condition)?;
+                Ok(Some(typed))
+            }
+            None => Ok(None),
+        }
+    }
+
+    /// `for (first; condition; step)`. Refused at its first node without a type.
+    pub fn typed_for(&self, x: &tree::ForHead) -> Result<ForHead<()>, Fault>
+        ensures { Gives for_head_of result (typed_for_lem (scope_of self.now) (for_source_of x.now)) }
+    {
+        let first = self.optional_assignment(&x.first)?;
+        let condition = self.optional_condition(&x.condition)?;
+        let step = self.optional_assignment(&x.step)?;
+        Ok(ForHead {
+            keyword: x.keyword,
+            left: x.left,
+            first,
+            first_semicolon: x.first_semicolon,
+            condition,
+            second_semicolon: x.second_semicolon,
+            step,
+            right: x.right,
+        })
+    }
+}
+
+/// Whether the result of a call may be assigned to a variable of this type.
+fn is_result_assignable(result_type: &Ty, ty: &Ty) -> bool
+    ensures { result ≡ is_assignable (result_operand (type_of result_type.now)) (type_of ty.now) }
+{
+    match (result_type, ty) {
+        (Ty::Pointer(one), Ty::Pointer(other)) => same_type(one, other),
+        (_, _) => integer_of(result_type).is_some() && integer_of(ty).is_some(),
+    }
+}
+
+impl Body<'_> {
+    /// Whether a variable of this type takes the result of a call.
+    fn takes_result(&self, signature: &Signature, variable: u32, ty: &Ty) -> bool
+        ensures { result ≡ takes_result_lem (body_for self.now) (signature_for signature.now) variable (type_of ty.now) }
+    {
+        self.is_own(variable) && is_scalar(ty) && is_result_assignable(&signature.result, ty)
+    }
+
+    /// The variable that takes a call's result. Refused with `Call` where it can't.
+    pub fn typed_target(&self, signature: &Signature, x: CallTarget) -> Result<ResultTarget, Fault>
+        ensures { Gives (λ y. y) result (typed_target_lem (body_for self.now) (signature_for signature.now) x) }
+    {
+        match self.scope.look_up(x.name.number) {
+            Some(Meaning::Object(variable, ty)) => {
+                if !self.takes_result(signature, *variable, ty) {
+                    return Err(refused(x.equals.from, TypeKind::Call));
+                }
+                Ok(ResultTarget {
+                    variable: *variable,
+                    target: x,
+                })
+            }
+            _ => Err(refused(x.equals.from, TypeKind::Call)),
+        }
+    }
+}

@@ -1,0 +1,95 @@
+//! What names mean where they stand (ISO/IEC 9899:1999, 6.2.1).
+ghost use Rattle.std.specs.Prelude.{◌≡◌, [], OnOk, map};
+ghost use Rattle.std.specs.Option.{option_map};
+ghost use Rattle.clight_syntax.specs.TypedViews.{struct_type_of};
+ghost use Rattle.clight_typing.specs.HeldScopes.{meaning_for, scope_of, file_names, named, declared_in};
+ghost use Rattle.clight_typing.specs.Scopes.{nothing, visible, declare as declare_lem};
+
+use cerco_base::NoMemory;
+use clight_syntax::Ty;
+use clight_syntax::typed::StructType;
+use indexmap::IndexMap;
+use std::alloc::Global;
+
+/// The types of a function's result and parameters.
+#[derive(Drop)]
+pub struct Signature {
+    pub result: Ty,
+    pub parameters: Vec<Ty>,
+}
+
+/// What a name means.
+#[derive(Drop)]
+pub enum Meaning {
+    /// The variable with this number, and its type.
+    Object(u32, Ty),
+    /// The function with this number, in the order of the definitions.
+    Code(u32, Signature),
+}
+
+/// What is visible at a place.
+#[derive(Drop)]
+pub struct Scope {
+    pub alloc: Global,
+    /// The structs, in the order of their definitions.
+    pub structs: Vec<StructType>,
+    /// The declarations of the file.
+    pub file: IndexMap<u32, Meaning>,
+    /// The parameters and locals of the function, which hide those of the file.
+    pub locals: IndexMap<u32, Meaning>,
+}
+
+impl Scope {
+    /// What the name with this number means, if it is declared.
+    pub fn look_up(&self, name: u32) -> Option<&Meaning>
+        ensures { option_map (λ x. meaning_for x.now) result ≡ (scope_of self.now).meaning name }
+    {
+        match self.locals.get(&name) {
+            Some(found) => Some(found),
+            None => self.file.get(&name),
+        }
+    }
+}
+
+impl Scope {
+    /// Nothing is declared.
+    pub fn new(alloc: Global) -> Scope
+        ensures names { file_names result ≡ nothing }
+        ensures structs { result.structs.items ≡ [] }
+    {
+        Scope {
+            alloc,
+            structs: Vec::new(alloc),
+            file: IndexMap::new(alloc),
+            locals: IndexMap::new(alloc),
+        }
+    }
+
+    /// Declares a name in the file. After want of memory the scope is of no use.
+    pub fn declare(&mut self, name: u32, meaning: Meaning) -> Result<(), NoMemory>
+        ensures names { OnOk result (file_names self.new ≡ declare_lem (named name meaning) (file_names self.old)) }
+        ensures structs { OnOk result (self.new.structs ≡ self.old.structs) }
+    {
+        self.file.insert(name, meaning)?;
+        Ok(())
+    }
+
+    /// Declares a parameter or local of the function. After want of memory the scope is of no use.
+    pub fn declare_local(&mut self, name: u32, meaning: Meaning) -> Result<(), NoMemory>
+        ensures scope { OnOk result (scope_of self.new ≡ declared_in (named name meaning) (scope_of self.old)) }
+        ensures names { OnOk result (file_names self.new ≡ file_names self.old) }
+        ensures structs { OnOk result (self.new.structs ≡ self.old.structs) }
+    {
+        self.locals.insert(name, meaning)?;
+        Ok(())
+    }
+
+    /// Forgets the parameters and locals of the function before.
+    pub fn forget_locals(&mut self)
+        ensures scope { scope_of self.new ≡ visible (map struct_type_of self.old.structs.items) (file_names self.old) }
+        ensures names { file_names self.new ≡ file_names self.old }
+        ensures structs { self.new.structs ≡ self.old.structs }
+    {
+        self.locals.clear();
+    }
+}
