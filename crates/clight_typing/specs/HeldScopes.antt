@@ -11,7 +11,6 @@ use Rattle.clight_typing.specs.declared.scope.Meaning.TheVariants as m
 use Rattle.clight_typing.specs.declared.scope.Scope.{Scope as HeldScope}
 use Rattle.indexmap.specs.IndexMap.{get}
 
-
 abbrev pub signature_for : HeldSignature → Signature
 signature_for x = record { result = type_of x.result; parameters = map type_of x.parameters.items }
 
