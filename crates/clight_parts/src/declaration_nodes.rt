@@ -12,7 +12,10 @@ use crate::nodes::{FunctionFront, StructFront};
 use crate::part::{DEPTH_LIMIT, Noted, Part, Statements, least};
 use cerco_base::NoMemory;
 use clight_syntax::span::Span;
-use clight_syntax::tree::{Declaration, Declared, EarlierParameter, Expr, Function, Global as GlobalVariable, Header, Initialiser, Item, Local, LocalInitialiser, Member, Parameters, Prototype, StructDefinition};
+use clight_syntax::tree::{
+    Declaration, Declared, EarlierParameter, Expr, Function, Global as GlobalVariable, Header,
+    Initialiser, Item, Local, LocalInitialiser, Member, Parameters, Prototype, StructDefinition,
+};
 use std::alloc::Global;
 
 /// Where a declared thing begins.
@@ -51,7 +54,11 @@ pub fn declaration_note(x: &Declaration) -> Option<u32>
 
 /// One more member.
 #[tactic(auto, using(crate::proofs::Pushes::pushes))]
-pub fn more_members(mut members: Noted<Vec<Member>>, x: Declaration, semicolon: Span) -> Result<Noted<Vec<Member>>, NoMemory>
+pub fn more_members(
+    mut members: Noted<Vec<Member>>,
+    x: Declaration,
+    semicolon: Span,
+) -> Result<Noted<Vec<Member>>, NoMemory>
     ensures { IfOk result (λ y. members_note y ≡ n.more_members limited (members_note members) (declaration_of x) semicolon) }
 {
     let deep = least(members.deep, declaration_note(&x));
@@ -66,7 +73,12 @@ pub fn more_members(mut members: Noted<Vec<Member>>, x: Declaration, semicolon: 
 }
 
 /// `struct tag { members };`
-pub fn struct_item(x: StructFront, members: Noted<Vec<Member>>, right: Span, semicolon: Span) -> Noted<Item>
+pub fn struct_item(
+    x: StructFront,
+    members: Noted<Vec<Member>>,
+    right: Span,
+    semicolon: Span,
+) -> Noted<Item>
     ensures { item_note result ≡ n.struct_item limited (struct_front x) (members_note members) right semicolon }
 {
     Noted {
@@ -99,7 +111,11 @@ pub fn global_item(x: Declaration, initialiser: Initialiser, semicolon: Span) ->
 
 /// One more parameter.
 #[tactic(auto, using(crate::proofs::Pushes::pushes))]
-pub fn more_parameters(mut earlier: Noted<Vec<EarlierParameter>>, x: Declared, comma: Span) -> Result<Noted<Vec<EarlierParameter>>, NoMemory>
+pub fn more_parameters(
+    mut earlier: Noted<Vec<EarlierParameter>>,
+    x: Declared,
+    comma: Span,
+) -> Result<Noted<Vec<EarlierParameter>>, NoMemory>
     ensures { IfOk result (λ y. earlier_parameters_note y ≡ n.more_parameters limited (earlier_parameters_note earlier) (declared_of x) comma) }
 {
     let deep = least(earlier.deep, declared_note(&x));
@@ -189,11 +205,20 @@ pub fn first_value(equals: Span, e: Part<Expr>) -> Noted<LocalInitialiser>
 
 /// One more local.
 #[tactic(auto, using(crate::proofs::Pushes::pushes))]
-pub fn more_locals(front: Noted<FunctionFront>, x: Declaration, initialiser: Noted<LocalInitialiser>, semicolon: Span) -> Result<Noted<FunctionFront>, NoMemory>
+pub fn more_locals(
+    front: Noted<FunctionFront>,
+    x: Declaration,
+    initialiser: Noted<LocalInitialiser>,
+    semicolon: Span,
+) -> Result<Noted<FunctionFront>, NoMemory>
     ensures { IfOk result (λ y. front_note y ≡ n.more_locals limited (front_note front) (declaration_of x) (local_initialiser_note initialiser) semicolon) }
 {
     let deep = least(front.deep, least(declaration_note(&x), initialiser.deep));
-    let FunctionFront { header, left, mut locals } = front.value;
+    let FunctionFront {
+        header,
+        left,
+        mut locals,
+    } = front.value;
     locals.push(Local {
         declaration: x,
         initialiser: initialiser.value,
@@ -214,7 +239,11 @@ pub fn function_item(front: Noted<FunctionFront>, xs: Statements, right: Span) -
     ensures { item_note result ≡ n.function_item limited (front_note front) (statements xs) right }
 {
     let deep = least(front.deep, xs.deep);
-    let FunctionFront { header, left, locals } = front.value;
+    let FunctionFront {
+        header,
+        left,
+        locals,
+    } = front.value;
     Noted {
         value: Item::Function(Function {
             header,

@@ -5,7 +5,11 @@ use crate::nodes::{ForMiddle, ForStart, FunctionFront, StructFront};
 use crate::part::{Noted, Part, Statements};
 use clight_syntax::span::Span;
 use clight_syntax::symbol::Literal;
-use clight_syntax::tree::{BinaryOperator, Call, CallTarget, Declaration, Declared, EarlierArgument, EarlierNumber, EarlierParameter, Expr, ForHead, Header, Initialiser, Item, Member, MemberOperator, Name, PrefixOperator, SignedNumber, Specifiers, Stmt, Test};
+use clight_syntax::tree::{
+    BinaryOperator, Call, CallTarget, Declaration, Declared, EarlierArgument, EarlierNumber,
+    EarlierParameter, Expr, ForHead, Header, Initialiser, Item, Member, MemberOperator, Name,
+    PrefixOperator, SignedNumber, Specifiers, Stmt, Test,
+};
 
 /// Where an assignment stands.
 #[derive(Drop)]

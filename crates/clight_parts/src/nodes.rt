@@ -9,7 +9,10 @@ use crate::part::{Noted, Part, above, least};
 use cerco_base::NoMemory;
 use clight_syntax::span::Span;
 use clight_syntax::symbol::Literal;
-use clight_syntax::tree::{Arguments, Assignment, BinaryOperator, Call, CallTarget, EarlierArgument, Expr, ForHead, Header, Local, MemberOperator, Name, PrefixOperator, Specifiers, Test};
+use clight_syntax::tree::{
+    Arguments, Assignment, BinaryOperator, Call, CallTarget, EarlierArgument, Expr, ForHead,
+    Header, Local, MemberOperator, Name, PrefixOperator, Specifiers, Test,
+};
 use std::alloc::Global;
 
 /// `for (first;`
@@ -70,59 +73,123 @@ pub fn constant(number: Literal, span: Span) -> Part<Expr>
 }
 
 /// An expression in parentheses.
-pub fn parenthesis(alloc: Global, left: Span, e: Part<Expr>, right: Span) -> Result<Part<Expr>, NoMemory>
+pub fn parenthesis(
+    alloc: Global,
+    left: Span,
+    e: Part<Expr>,
+    right: Span,
+) -> Result<Part<Expr>, NoMemory>
     ensures { IfOk result (λ x. expr_part x ≡ n.parenthesis limited left (expr_part e) right) }
 {
-    let Part { tree, depth, deep, .. } = e;
+    let Part {
+        tree,
+        depth,
+        deep,
+        ..
+    } = e;
     let tree = Expr::Parenthesis(left, Box::new(alloc, tree)?, right);
     Ok(above(tree, depth, left.from, deep))
 }
 
 /// A binary operator between its operands.
-pub fn binary(alloc: Global, l: Part<Expr>, operator: BinaryOperator, at: Span, r: Part<Expr>) -> Result<Part<Expr>, NoMemory>
+pub fn binary(
+    alloc: Global,
+    l: Part<Expr>,
+    operator: BinaryOperator,
+    at: Span,
+    r: Part<Expr>,
+) -> Result<Part<Expr>, NoMemory>
     ensures { IfOk result (λ x. expr_part x ≡ n.binary limited (expr_part l) operator at (expr_part r)) }
 {
     let below = l.depth.max(r.depth);
     let deep = least(l.deep, r.deep);
     let start = l.start;
-    let tree = Expr::Binary(Box::new(alloc, l.tree)?, operator, at, Box::new(alloc, r.tree)?);
+    let tree = Expr::Binary(
+        Box::new(alloc, l.tree)?,
+        operator,
+        at,
+        Box::new(alloc, r.tree)?,
+    );
     Ok(above(tree, below, start, deep))
 }
 
 /// A prefix operator before its operand.
-pub fn prefix(alloc: Global, operator: PrefixOperator, at: Span, e: Part<Expr>) -> Result<Part<Expr>, NoMemory>
+pub fn prefix(
+    alloc: Global,
+    operator: PrefixOperator,
+    at: Span,
+    e: Part<Expr>,
+) -> Result<Part<Expr>, NoMemory>
     ensures { IfOk result (λ x. expr_part x ≡ n.prefix limited operator at (expr_part e)) }
 {
-    let Part { tree, depth, deep, .. } = e;
+    let Part {
+        tree,
+        depth,
+        deep,
+        ..
+    } = e;
     let tree = Expr::Prefix(operator, at, Box::new(alloc, tree)?);
     Ok(above(tree, depth, at.from, deep))
 }
 
 /// A cast of its operand.
-pub fn cast(alloc: Global, left: Span, specifiers: Specifiers, right: Span, e: Part<Expr>) -> Result<Part<Expr>, NoMemory>
+pub fn cast(
+    alloc: Global,
+    left: Span,
+    specifiers: Specifiers,
+    right: Span,
+    e: Part<Expr>,
+) -> Result<Part<Expr>, NoMemory>
     ensures { IfOk result (λ x. expr_part x ≡ n.cast limited left specifiers right (expr_part e)) }
 {
-    let Part { tree, depth, deep, .. } = e;
+    let Part {
+        tree,
+        depth,
+        deep,
+        ..
+    } = e;
     let tree = Expr::Cast(left, specifiers, right, Box::new(alloc, tree)?);
     Ok(above(tree, depth, left.from, deep))
 }
 
 /// An element of an array.
-pub fn index(alloc: Global, base: Part<Expr>, left: Span, i: Part<Expr>, right: Span) -> Result<Part<Expr>, NoMemory>
+pub fn index(
+    alloc: Global,
+    base: Part<Expr>,
+    left: Span,
+    i: Part<Expr>,
+    right: Span,
+) -> Result<Part<Expr>, NoMemory>
     ensures { IfOk result (λ x. expr_part x ≡ n.index limited (expr_part base) left (expr_part i) right) }
 {
     let below = base.depth.max(i.depth);
     let deep = least(base.deep, i.deep);
     let start = base.start;
-    let tree = Expr::Index(Box::new(alloc, base.tree)?, left, Box::new(alloc, i.tree)?, right);
+    let tree = Expr::Index(
+        Box::new(alloc, base.tree)?,
+        left,
+        Box::new(alloc, i.tree)?,
+        right,
+    );
     Ok(above(tree, below, start, deep))
 }
 
 /// A member of a struct.
-pub fn select(alloc: Global, e: Part<Expr>, operator: MemberOperator, at: Span, member: Name) -> Result<Part<Expr>, NoMemory>
+pub fn select(
+    alloc: Global,
+    e: Part<Expr>,
+    operator: MemberOperator,
+    at: Span,
+    member: Name,
+) -> Result<Part<Expr>, NoMemory>
     ensures { IfOk result (λ x. expr_part x ≡ n.select limited (expr_part e) operator at member) }
 {
-    let Part { tree, depth, start, deep } = e;
+    let Part {
+        tree,
+        depth,
+        start,
+        deep,
+    } = e;
     let tree = Expr::Member(Box::new(alloc, tree)?, operator, at, member);
     Ok(above(tree, depth, start, deep))
 }
@@ -169,7 +236,11 @@ pub fn test(keyword: Span, left: Span, e: Part<Expr>, right: Span) -> Noted<Test
 
 /// One more argument.
 #[tactic(auto, using(crate::proofs::Pushes::pushes))]
-pub fn more_arguments(mut earlier: Noted<Vec<EarlierArgument>>, e: Part<Expr>, comma: Span) -> Result<Noted<Vec<EarlierArgument>>, NoMemory>
+pub fn more_arguments(
+    mut earlier: Noted<Vec<EarlierArgument>>,
+    e: Part<Expr>,
+    comma: Span,
+) -> Result<Noted<Vec<EarlierArgument>>, NoMemory>
     ensures { IfOk result (λ x. earlier_arguments_note x ≡ n.more_arguments limited (earlier_arguments_note earlier) (expr_part e) comma) }
 {
     let deep = least(earlier.deep, e.deep);
@@ -195,7 +266,13 @@ pub fn all_arguments(earlier: Noted<Vec<EarlierArgument>>, e: Part<Expr>) -> Not
 }
 
 /// A call of a function.
-pub fn call(target: Option<CallTarget>, function: Name, left: Span, arguments: Noted<Arguments>, right: Span) -> Noted<Call>
+pub fn call(
+    target: Option<CallTarget>,
+    function: Name,
+    left: Span,
+    arguments: Noted<Arguments>,
+    right: Span,
+) -> Noted<Call>
     ensures { call_note result ≡ n.call limited target function left (arguments_note arguments) right }
 {
     Noted {
@@ -211,7 +288,12 @@ pub fn call(target: Option<CallTarget>, function: Name, left: Span, arguments: N
 }
 
 /// `for (first;`
-pub fn for_start(keyword: Span, left: Span, first: Noted<Option<Assignment>>, semicolon: Span) -> Noted<ForStart>
+pub fn for_start(
+    keyword: Span,
+    left: Span,
+    first: Noted<Option<Assignment>>,
+    semicolon: Span,
+) -> Noted<ForStart>
     ensures { for_start_note result ≡ n.for_start limited keyword left (optional_assignment_note first) semicolon }
 {
     Noted {
@@ -226,7 +308,11 @@ pub fn for_start(keyword: Span, left: Span, first: Noted<Option<Assignment>>, se
 }
 
 /// `for (first; condition;`
-pub fn for_middle(start: Noted<ForStart>, condition: Noted<Option<Expr>>, semicolon: Span) -> Noted<ForMiddle>
+pub fn for_middle(
+    start: Noted<ForStart>,
+    condition: Noted<Option<Expr>>,
+    semicolon: Span,
+) -> Noted<ForMiddle>
     ensures { for_middle_note result ≡ n.for_middle limited (for_start_note start) (optional_expr_note condition) semicolon }
 {
     let deep = least(start.deep, condition.deep);
@@ -241,11 +327,19 @@ pub fn for_middle(start: Noted<ForStart>, condition: Noted<Option<Expr>>, semico
 }
 
 /// `for (first; condition; step)`
-pub fn for_head(middle: Noted<ForMiddle>, step: Noted<Option<Assignment>>, right: Span) -> Noted<ForHead>
+pub fn for_head(
+    middle: Noted<ForMiddle>,
+    step: Noted<Option<Assignment>>,
+    right: Span,
+) -> Noted<ForHead>
     ensures { for_head_note result ≡ n.for_head limited (for_middle_note middle) (optional_assignment_note step) right }
 {
     let deep = least(middle.deep, step.deep);
-    let ForMiddle { start, condition, semicolon } = middle.value;
+    let ForMiddle {
+        start,
+        condition,
+        semicolon,
+    } = middle.value;
     Noted {
         value: ForHead {
             keyword: start.keyword,

@@ -76,7 +76,12 @@ pub fn assign(target: Part<Expr>, equals: Span, value: Part<Expr>, semicolon: Sp
 pub fn read_port(target: Part<Expr>, equals: Span, port: Span, semicolon: Span) -> Part<Stmt>
     ensures { stmt_part result ≡ n.read_port limited (expr_part target) equals port semicolon }
 {
-    let Part { tree, start, deep, .. } = target;
+    let Part {
+        tree,
+        start,
+        deep,
+        ..
+    } = target;
     Part {
         tree: Stmt::ReadPort(tree, equals, port, semicolon),
         depth: 0,
@@ -182,13 +187,24 @@ pub fn if_statement(alloc: Global, t: Noted<Test>, x: Part<Stmt>) -> Result<Part
 }
 
 /// `if (condition) arm else other`
-pub fn if_else(alloc: Global, t: Noted<Test>, x: Part<Stmt>, at: Span, y: Part<Stmt>) -> Result<Part<Stmt>, NoMemory>
+pub fn if_else(
+    alloc: Global,
+    t: Noted<Test>,
+    x: Part<Stmt>,
+    at: Span,
+    y: Part<Stmt>,
+) -> Result<Part<Stmt>, NoMemory>
     ensures { IfOk result (λ z. stmt_part z ≡ n.if_else limited (test_note t) (stmt_part x) at (stmt_part y)) }
 {
     let below = x.depth.max(y.depth);
     let deep = least(t.deep, least(x.deep, y.deep));
     let start = t.value.keyword.from;
-    let tree = Stmt::IfElse(t.value, Box::new(alloc, x.tree)?, at, Box::new(alloc, y.tree)?);
+    let tree = Stmt::IfElse(
+        t.value,
+        Box::new(alloc, x.tree)?,
+        at,
+        Box::new(alloc, y.tree)?,
+    );
     Ok(statement_above(tree, below, start, deep))
 }
 
@@ -203,7 +219,13 @@ pub fn while_statement(alloc: Global, t: Noted<Test>, x: Part<Stmt>) -> Result<P
 }
 
 /// `do body while (condition);`
-pub fn do_statement(alloc: Global, keyword: Span, x: Part<Stmt>, t: Noted<Test>, semicolon: Span) -> Result<Part<Stmt>, NoMemory>
+pub fn do_statement(
+    alloc: Global,
+    keyword: Span,
+    x: Part<Stmt>,
+    t: Noted<Test>,
+    semicolon: Span,
+) -> Result<Part<Stmt>, NoMemory>
     ensures { IfOk result (λ y. stmt_part y ≡ n.do_statement limited keyword (stmt_part x) (test_note t) semicolon) }
 {
     let deep = least(x.deep, t.deep);
@@ -212,7 +234,11 @@ pub fn do_statement(alloc: Global, keyword: Span, x: Part<Stmt>, t: Noted<Test>,
 }
 
 /// `for (first; condition; step) body`
-pub fn for_statement(alloc: Global, head: Noted<ForHead>, x: Part<Stmt>) -> Result<Part<Stmt>, NoMemory>
+pub fn for_statement(
+    alloc: Global,
+    head: Noted<ForHead>,
+    x: Part<Stmt>,
+) -> Result<Part<Stmt>, NoMemory>
     ensures { IfOk result (λ y. stmt_part y ≡ n.for_statement limited (for_head_note head) (stmt_part x)) }
 {
     let deep = least(head.deep, x.deep);

@@ -7,6 +7,3 @@ pub mod program;
 pub mod reading;
 
 pub use program::parse;
-
-#[cfg(test)]
-mod tests;

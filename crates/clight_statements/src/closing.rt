@@ -8,11 +8,13 @@ ghost use Rattle.clight_parts.specs.Statements as s;
 ghost use Rattle.clight_parts.specs.Forms as o;
 ghost use Rattle.clight_parts.specs.Views.{stmt_part, form_of, forms, mode_of};
 
-use clight_parts::forms::{Form, Mode, StatementMode};
-use clight_parts::stack::{pop, push, refuse_with, start_in};
-use clight_parts::part::Part;
-use clight_parts::statement_nodes::{for_statement, if_else, if_statement, more_statements, no_statements, while_statement};
 use cerco_base::NoMemory;
+use clight_parts::forms::{Form, Mode, StatementMode};
+use clight_parts::part::Part;
+use clight_parts::stack::{pop, push, refuse_with, start_in};
+use clight_parts::statement_nodes::{
+    for_statement, if_else, if_statement, more_statements, no_statements, while_statement,
+};
 use clight_syntax::tree::Stmt;
 use std::alloc::Global;
 
@@ -48,7 +50,12 @@ fn await_else(stack: &mut Vec<Form>, form: Form, x: Part<Stmt>) -> Result<Mode, 
     Ok(Mode::Statement(StatementMode::MayElse(x)))
 }
 
-fn finish_once(alloc: Global, stack: &mut Vec<Form>, form: Form, x: Part<Stmt>) -> Result<Closing, NoMemory>
+fn finish_once(
+    alloc: Global,
+    stack: &mut Vec<Form>,
+    form: Form,
+    x: Part<Stmt>,
+) -> Result<Closing, NoMemory>
     ensures { IfOk result (λ m. Closes (s.finish limited) (s.finish limited (stmt_part x) (form_of form ∷ forms stack.old.items)) m stack.old.items stack.new.items) }
 {
     match form {
@@ -73,7 +80,12 @@ pub fn finish(alloc: Global, stack: &mut Vec<Form>, mut x: Part<Stmt>) -> Result
     Ok(Mode::Refused)
 }
 
-fn flush_once(alloc: Global, stack: &mut Vec<Form>, form: Form, x: Part<Stmt>) -> Result<Closing, NoMemory>
+fn flush_once(
+    alloc: Global,
+    stack: &mut Vec<Form>,
+    form: Form,
+    x: Part<Stmt>,
+) -> Result<Closing, NoMemory>
     ensures { IfOk result (λ m. Closes (s.flush limited) (s.flush limited (stmt_part x) (form_of form ∷ forms stack.old.items)) m stack.old.items stack.new.items) }
 {
     match form {

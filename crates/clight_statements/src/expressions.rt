@@ -7,13 +7,13 @@ ghost use Rattle.clight_statements.specs.Branches as r;
 ghost use Rattle.clight_parts.specs.Forms as o;
 ghost use Rattle.clight_parts.specs.Views.{expr_part, place_of, forms, mode_of};
 
-use clight_parts::forms::{Form, Mode, Pending, Place, StatementMode};
 use crate::operators::is_target;
-use clight_parts::stack::{operand_in, pop, push, refuse, refuse_behind, refuse_operand};
-use clight_parts::words::{first_word, next_word};
+use cerco_base::NoMemory;
+use clight_parts::forms::{Form, Mode, Pending, Place, StatementMode};
 use clight_parts::nodes::{constant, select, variable};
 use clight_parts::part::Part;
-use cerco_base::NoMemory;
+use clight_parts::stack::{operand_in, pop, push, refuse, refuse_behind, refuse_operand};
+use clight_parts::words::{first_word, next_word};
 use clight_syntax::span::Span;
 use clight_syntax::symbol::{Symbol, Terminal};
 use clight_syntax::tree::{BinaryOperator, Expr, MemberOperator, Name, PrefixOperator, Specifiers};
@@ -21,7 +21,12 @@ use std::alloc::Global;
 
 /// A binary operator behind an operand whose operators are closed.
 #[tactic(auto, using(crate::proofs::Branches::target_is))]
-pub fn infix_at(stack: &mut Vec<Form>, operator: BinaryOperator, at: Span, e: Part<Expr>) -> Result<Mode, NoMemory>
+pub fn infix_at(
+    stack: &mut Vec<Form>,
+    operator: BinaryOperator,
+    at: Span,
+    e: Part<Expr>,
+) -> Result<Mode, NoMemory>
     ensures { IfOk result (λ m. mode_of m (forms stack.new.items) ≡ s.infix_at operator at (expr_part e) (forms stack.old.items)) }
 {
     let Some(form) = pop(stack) else {
@@ -110,7 +115,14 @@ pub fn operand(stack: &mut Vec<Form>, t: Terminal) -> Result<Mode, NoMemory>
 }
 
 /// A symbol where the name of a member is due.
-pub fn member_name(alloc: Global, stack: &mut Vec<Form>, e: Part<Expr>, operator: MemberOperator, at: Span, t: Terminal) -> Result<Mode, NoMemory>
+pub fn member_name(
+    alloc: Global,
+    stack: &mut Vec<Form>,
+    e: Part<Expr>,
+    operator: MemberOperator,
+    at: Span,
+    t: Terminal,
+) -> Result<Mode, NoMemory>
     ensures { IfOk result (λ m. mode_of m (forms stack.new.items) ≡ s.member_name limited (expr_part e) operator at (forms stack.old.items) t.symbol t.span) }
 {
     match t.symbol {
@@ -142,7 +154,12 @@ pub fn tag_of_cast(left: Span, keyword: Span, t: Terminal) -> Mode
 }
 
 /// A symbol behind the words of a cast.
-pub fn in_cast(stack: &mut Vec<Form>, left: Span, specifiers: Specifiers, t: Terminal) -> Result<Mode, NoMemory>
+pub fn in_cast(
+    stack: &mut Vec<Form>,
+    left: Span,
+    specifiers: Specifiers,
+    t: Terminal,
+) -> Result<Mode, NoMemory>
     ensures { IfOk result (λ m. mode_of m (forms stack.new.items) ≡ s.in_cast left specifiers (forms stack.old.items) t.symbol t.span) }
 {
     match t.symbol {

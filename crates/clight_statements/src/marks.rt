@@ -8,16 +8,19 @@ ghost use Rattle.clight_parts.specs.Statements as s;
 ghost use Rattle.clight_parts.specs.Forms as o;
 ghost use Rattle.clight_parts.specs.Views.{expr_part, place_of, forms, mode_of};
 
-use clight_parts::declaration_nodes::{first_value, more_locals};
-use clight_parts::forms::{Form, Mode, Pending, Place, StatementMode};
 use crate::closing::finish;
 use crate::expressions::infix_at;
 use crate::operators::{binary_of, binds, settle};
-use clight_parts::stack::{operand_in, pop, refuse_behind, refuse_operand, start_in};
-use clight_parts::nodes::{all_arguments, assignment, call, for_head, for_middle, for_start, index, just_assignment, just_expr, more_arguments, name_of, parenthesis, test};
-use clight_parts::part::Part;
-use clight_parts::statement_nodes::{assign, return_statement, write_port};
 use cerco_base::NoMemory;
+use clight_parts::declaration_nodes::{first_value, more_locals};
+use clight_parts::forms::{Form, Mode, Pending, Place, StatementMode};
+use clight_parts::nodes::{
+    all_arguments, assignment, call, for_head, for_middle, for_start, index, just_assignment,
+    just_expr, more_arguments, name_of, parenthesis, test,
+};
+use clight_parts::part::Part;
+use clight_parts::stack::{operand_in, pop, refuse_behind, refuse_operand, start_in};
+use clight_parts::statement_nodes::{assign, return_statement, write_port};
 use clight_syntax::span::Span;
 use clight_syntax::symbol::{Symbol, Terminal};
 use clight_syntax::tree::{CallTarget, Expr, MemberOperator, Name};
@@ -36,7 +39,14 @@ fn refuse_call(_e: Part<Expr>, _place: Place) -> Mode
 }
 
 /// `)` behind `target = value`.
-fn close_step(stack: &mut Vec<Form>, at: Span, e: Part<Expr>, place: Place, target: Part<Expr>, equals: Span) -> Result<Mode, NoMemory>
+fn close_step(
+    stack: &mut Vec<Form>,
+    at: Span,
+    e: Part<Expr>,
+    place: Place,
+    target: Part<Expr>,
+    equals: Span,
+) -> Result<Mode, NoMemory>
     ensures { IfOk result (λ m. mode_of m (forms stack.new.items) ≡ r.close_step limited at (expr_part e) (place_of place) (expr_part target) equals (forms stack.old.items)) }
 {
     match place {
@@ -49,7 +59,15 @@ fn close_step(stack: &mut Vec<Form>, at: Span, e: Part<Expr>, place: Place, targ
 }
 
 /// `;` behind `target = value`.
-fn end_value(alloc: Global, stack: &mut Vec<Form>, at: Span, e: Part<Expr>, place: Place, target: Part<Expr>, equals: Span) -> Result<Mode, NoMemory>
+fn end_value(
+    alloc: Global,
+    stack: &mut Vec<Form>,
+    at: Span,
+    e: Part<Expr>,
+    place: Place,
+    target: Part<Expr>,
+    equals: Span,
+) -> Result<Mode, NoMemory>
     ensures { IfOk result (λ m. mode_of m (forms stack.new.items) ≡ r.end_value limited at (expr_part e) (place_of place) (expr_part target) equals (forms stack.old.items)) }
 {
     match place {
@@ -64,7 +82,12 @@ fn end_value(alloc: Global, stack: &mut Vec<Form>, at: Span, e: Part<Expr>, plac
 }
 
 /// `)`
-fn close_parenthesis(alloc: Global, stack: &mut Vec<Form>, at: Span, e: Part<Expr>) -> Result<Mode, NoMemory>
+fn close_parenthesis(
+    alloc: Global,
+    stack: &mut Vec<Form>,
+    at: Span,
+    e: Part<Expr>,
+) -> Result<Mode, NoMemory>
     ensures { IfOk result (λ m. mode_of m (forms stack.new.items) ≡ s.close_parenthesis limited at (expr_part e) (forms stack.old.items)) }
 {
     let Some(form) = pop(stack) else {
@@ -79,7 +102,13 @@ fn close_parenthesis(alloc: Global, stack: &mut Vec<Form>, at: Span, e: Part<Exp
             Ok(Mode::Statement(StatementMode::End(pending)))
         }
         Form::Arguments(target, function, left, earlier) => {
-            let pending = Pending::Call(call(target, function, left, all_arguments(earlier, e), at));
+            let pending = Pending::Call(call(
+                target,
+                function,
+                left,
+                all_arguments(earlier, e),
+                at,
+            ));
             Ok(Mode::Statement(StatementMode::End(pending)))
         }
         Form::Value(place, target, equals) => close_step(stack, at, e, place, target, equals),
@@ -88,7 +117,12 @@ fn close_parenthesis(alloc: Global, stack: &mut Vec<Form>, at: Span, e: Part<Exp
 }
 
 /// `]`
-fn close_bracket(alloc: Global, stack: &mut Vec<Form>, at: Span, e: Part<Expr>) -> Result<Mode, NoMemory>
+fn close_bracket(
+    alloc: Global,
+    stack: &mut Vec<Form>,
+    at: Span,
+    e: Part<Expr>,
+) -> Result<Mode, NoMemory>
     ensures { IfOk result (λ m. mode_of m (forms stack.new.items) ≡ s.close_bracket limited at (expr_part e) (forms stack.old.items)) }
 {
     let Some(form) = pop(stack) else {
@@ -117,7 +151,12 @@ fn next_argument(stack: &mut Vec<Form>, at: Span, e: Part<Expr>) -> Result<Mode,
 }
 
 /// `;`
-fn end_expression(alloc: Global, stack: &mut Vec<Form>, at: Span, e: Part<Expr>) -> Result<Mode, NoMemory>
+fn end_expression(
+    alloc: Global,
+    stack: &mut Vec<Form>,
+    at: Span,
+    e: Part<Expr>,
+) -> Result<Mode, NoMemory>
     ensures { IfOk result (λ m. mode_of m (forms stack.new.items) ≡ s.end_expression limited at (expr_part e) (forms stack.old.items)) }
 {
     let Some(form) = pop(stack) else {
@@ -234,7 +273,12 @@ fn act(alloc: Global, stack: &mut Vec<Form>, t: Terminal, e: Part<Expr>) -> Resu
 }
 
 /// A symbol behind an operand.
-pub fn behind(alloc: Global, stack: &mut Vec<Form>, e: Part<Expr>, t: Terminal) -> Result<Mode, NoMemory>
+pub fn behind(
+    alloc: Global,
+    stack: &mut Vec<Form>,
+    e: Part<Expr>,
+    t: Terminal,
+) -> Result<Mode, NoMemory>
     ensures { IfOk result (λ m. mode_of m (forms stack.new.items) ≡ s.act limited t.symbol t.span (x.settle limited (x.binds t.symbol) (forms stack.old.items) (expr_part e))) }
 {
     let e = settle(alloc, stack, e, binds(t.symbol))?;

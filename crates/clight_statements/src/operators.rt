@@ -6,11 +6,11 @@ ghost use Rattle.clight_parts.specs.Builds.{limited};
 ghost use Rattle.clight_parts.specs.Expressions as s;
 ghost use Rattle.clight_parts.specs.Views.{expr_part, form_of, forms};
 
+use cerco_base::NoMemory;
 use clight_parts::forms::Form;
-use clight_parts::stack::{pop, push};
 use clight_parts::nodes::{binary, cast, prefix};
 use clight_parts::part::Part;
-use cerco_base::NoMemory;
+use clight_parts::stack::{pop, push};
 use clight_syntax::symbol::Symbol;
 use clight_syntax::tree::{BinaryOperator, Expr};
 use std::alloc::Global;

@@ -9,16 +9,19 @@ ghost use Rattle.clight_parts.specs.Forms as o;
 ghost use Rattle.clight_parts.specs.Machine.{next};
 ghost use Rattle.clight_parts.specs.Views.{stmt_part, form_of, forms, for_start_note, for_middle_note, pending_of, mode_of, statement_mode};
 
-use clight_parts::declaration_nodes::function_item;
-use clight_parts::forms::{DeclarationMode, Form, Mode, Owner, Pending, Place, StatementMode};
 use crate::closing::{finish, flush};
 use crate::expressions::operand;
-use clight_parts::stack::{operand_in, pop, push, refuse, refuse_statement, refuse_with, start_in};
-use clight_parts::words::first_word;
+use cerco_base::NoMemory;
+use clight_parts::declaration_nodes::function_item;
+use clight_parts::forms::{DeclarationMode, Form, Mode, Owner, Pending, Place, StatementMode};
 use clight_parts::nodes::{ForMiddle, ForStart, call, for_head, for_middle, for_start};
 use clight_parts::part::{Noted, Part};
-use clight_parts::statement_nodes::{block, break_statement, call_statement, continue_statement, do_statement, empty_statement, no_statements, read_port, return_statement};
-use cerco_base::NoMemory;
+use clight_parts::stack::{operand_in, pop, push, refuse, refuse_statement, refuse_with, start_in};
+use clight_parts::statement_nodes::{
+    block, break_statement, call_statement, continue_statement, do_statement, empty_statement,
+    no_statements, read_port, return_statement,
+};
+use clight_parts::words::first_word;
 use clight_syntax::span::Span;
 use clight_syntax::symbol::{Symbol, Terminal};
 use clight_syntax::tree::{Arguments, CallTarget, Name, Specifiers, Stmt};
@@ -159,7 +162,12 @@ fn else_arm(stack: &mut Vec<Form>, x: Part<Stmt>, at: Span) -> Result<Mode, NoMe
 }
 
 /// A symbol behind a statement in an `if`.
-fn may_else(alloc: Global, stack: &mut Vec<Form>, x: Part<Stmt>, t: Terminal) -> Result<Mode, NoMemory>
+fn may_else(
+    alloc: Global,
+    stack: &mut Vec<Form>,
+    x: Part<Stmt>,
+    t: Terminal,
+) -> Result<Mode, NoMemory>
     ensures { IfOk result (λ m. mode_of m (forms stack.new.items) ≡ s.may_else limited (stmt_part x) (forms stack.old.items) t.symbol t.span) }
 {
     match t.symbol {
@@ -190,7 +198,12 @@ fn for_word(keyword: Span, t: Terminal) -> Mode
     }
 }
 
-fn for_first(stack: &mut Vec<Form>, keyword: Span, left: Span, t: Terminal) -> Result<Mode, NoMemory>
+fn for_first(
+    stack: &mut Vec<Form>,
+    keyword: Span,
+    left: Span,
+    t: Terminal,
+) -> Result<Mode, NoMemory>
     ensures { IfOk result (λ m. mode_of m (forms stack.new.items) ≡ s.for_first limited keyword left (forms stack.old.items) t.symbol t.span) }
 {
     match t.symbol {
@@ -206,7 +219,11 @@ fn for_first(stack: &mut Vec<Form>, keyword: Span, left: Span, t: Terminal) -> R
     }
 }
 
-fn for_condition(stack: &mut Vec<Form>, start: Noted<ForStart>, t: Terminal) -> Result<Mode, NoMemory>
+fn for_condition(
+    stack: &mut Vec<Form>,
+    start: Noted<ForStart>,
+    t: Terminal,
+) -> Result<Mode, NoMemory>
     ensures { IfOk result (λ m. mode_of m (forms stack.new.items) ≡ s.for_condition limited (for_start_note start) (forms stack.old.items) t.symbol t.span) }
 {
     match t.symbol {
@@ -237,7 +254,12 @@ fn for_step(stack: &mut Vec<Form>, middle: Noted<ForMiddle>, t: Terminal) -> Res
     }
 }
 
-fn return_word(alloc: Global, stack: &mut Vec<Form>, keyword: Span, t: Terminal) -> Result<Mode, NoMemory>
+fn return_word(
+    alloc: Global,
+    stack: &mut Vec<Form>,
+    keyword: Span,
+    t: Terminal,
+) -> Result<Mode, NoMemory>
     ensures { IfOk result (λ m. mode_of m (forms stack.new.items) ≡ s.return_word limited keyword (forms stack.old.items) t.symbol t.span) }
 {
     match t.symbol {
@@ -261,7 +283,14 @@ fn port_word(stack: &mut Vec<Form>, port: Span, t: Terminal) -> Result<Mode, NoM
     }
 }
 
-fn first_argument(alloc: Global, stack: &mut Vec<Form>, target: Option<CallTarget>, function: Name, left: Span, t: Terminal) -> Result<Mode, NoMemory>
+fn first_argument(
+    alloc: Global,
+    stack: &mut Vec<Form>,
+    target: Option<CallTarget>,
+    function: Name,
+    left: Span,
+    t: Terminal,
+) -> Result<Mode, NoMemory>
     ensures { IfOk result (λ m. mode_of m (forms stack.new.items) ≡ s.first_argument limited target function left (forms stack.old.items) t.symbol t.span) }
 {
     match t.symbol {
@@ -289,7 +318,12 @@ fn refuse_pending(_x: Pending) -> Mode
     Mode::Refused
 }
 
-fn statement_end(alloc: Global, stack: &mut Vec<Form>, x: Pending, t: Terminal) -> Result<Mode, NoMemory>
+fn statement_end(
+    alloc: Global,
+    stack: &mut Vec<Form>,
+    x: Pending,
+    t: Terminal,
+) -> Result<Mode, NoMemory>
     ensures { IfOk result (λ m. mode_of m (forms stack.new.items) ≡ s.statement_end limited (pending_of x) (forms stack.old.items) t.symbol t.span) }
 {
     match t.symbol {
@@ -302,7 +336,12 @@ fn statement_end(alloc: Global, stack: &mut Vec<Form>, x: Pending, t: Terminal) 
 }
 
 /// A symbol in a statement.
-pub fn in_statement(alloc: Global, stack: &mut Vec<Form>, mode: StatementMode, t: Terminal) -> Result<Mode, NoMemory>
+pub fn in_statement(
+    alloc: Global,
+    stack: &mut Vec<Form>,
+    mode: StatementMode,
+    t: Terminal,
+) -> Result<Mode, NoMemory>
     ensures { IfOk result (λ m. mode_of m (forms stack.new.items) ≡ next limited (statement_mode mode (forms stack.old.items)) t.symbol t.span) }
 {
     match mode {
@@ -311,14 +350,20 @@ pub fn in_statement(alloc: Global, stack: &mut Vec<Form>, mode: StatementMode, t
         StatementMode::IfWord(keyword) => opened(stack, Form::IfTest(keyword, t.span), t),
         StatementMode::WhileWord(keyword) => opened(stack, Form::WhileTest(keyword, t.span), t),
         StatementMode::DoBody(keyword, x) => Ok(do_while(keyword, x, t)),
-        StatementMode::DoWhile(keyword, x, inner) => opened(stack, Form::DoTest(keyword, x, inner, t.span), t),
+        StatementMode::DoWhile(keyword, x, inner) => opened(
+            stack,
+            Form::DoTest(keyword, x, inner, t.span),
+            t,
+        ),
         StatementMode::ForWord(keyword) => Ok(for_word(keyword, t)),
         StatementMode::ForFirst(keyword, left) => for_first(stack, keyword, left, t),
         StatementMode::ForCondition(start) => for_condition(stack, start, t),
         StatementMode::ForStep(middle) => for_step(stack, middle, t),
         StatementMode::ReturnWord(keyword) => return_word(alloc, stack, keyword, t),
         StatementMode::PortWord(port) => port_word(stack, port, t),
-        StatementMode::FirstArgument(target, function, left) => first_argument(alloc, stack, target, function, left, t),
+        StatementMode::FirstArgument(target, function, left) => first_argument(
+            alloc, stack, target, function, left, t,
+        ),
         StatementMode::End(x) => statement_end(alloc, stack, x, t),
     }
 }

@@ -1,5 +1,7 @@
-use crate::parse;
+//! The tree of a source, or why it has none.
+
 use cerco_base::{Fault, NoMemory, Reason};
+use clight_reader::parse;
 use clight_tokens::tokens;
 use std::alloc::Global;
 use std::test::Fail;
