@@ -9,3 +9,5 @@ mod layouts;
 mod names;
 #[cfg(test)]
 mod runs;
+#[cfg(test)]
+mod trees;

@@ -161,7 +161,10 @@ fn labelled(
 
 // `void main(void){unsigned char a;unsigned char b;a=P1;b=P1;`, a statement, `}`
 fn reads_two(alloc: Global, last: Stmt<Label>) -> Result<Labelled, NoMemory> {
-    let variables = vec![in alloc; variable(Ty::U8, Home::Scalar(0)), variable(Ty::U8, Home::Scalar(1))]?;
+    let variables = vec![in alloc;
+        variable(Ty::U8, Home::Scalar(0)),
+        variable(Ty::U8, Home::Scalar(1)),
+    ]?;
     let body = vec![in alloc; read(char_at(0)), read(char_at(1)), last]?;
     let main = function(alloc, 0, Ty::Void, 0, 2, body)?;
     Ok(labelled(alloc, variables, vec![in alloc; main]?, 0))
@@ -196,7 +199,11 @@ fn while_both(alloc: Global) -> Result<Stmt<Label>, NoMemory> {
 // `b=8;b=b/a;P1=b;` in a block
 fn divides(alloc: Global) -> Result<Stmt<Label>, NoMemory> {
     let quotient = combined(alloc, char_at(1), BinaryOperator::Divide, char_at(0))?;
-    let body = vec![in alloc; set(char_at(1), constant(8)), set(char_at(1), quotient), write(char_at(1))]?;
+    let body = vec![in alloc;
+        set(char_at(1), constant(8)),
+        set(char_at(1), quotient),
+        write(char_at(1)),
+    ]?;
     Ok(Stmt::Block(NOWHERE, body, NOWHERE))
 }
 
@@ -246,7 +253,10 @@ fn told(alloc: Global, program: &Labelled, script: &[u8]) -> Result<String, Fail
             return Ok(text);
         }
         match evaluator.next()? {
-            Turn::Event(Event::Label(label)) => text.push_str(&format!(in alloc; "L{} ", label.0)?)?,
+            Turn::Event(Event::Label(label)) => text.push_str(&format!(in alloc;
+                "L{} ",
+                label.0
+            )?)?,
             Turn::Event(Event::Read(_, byte)) => text.push_str(&format!(in alloc; "R{byte} ")?)?,
             Turn::Event(Event::Write(_, byte)) => text.push_str(&format!(in alloc; "P{byte} ")?)?,
             Turn::Ended => {
@@ -288,8 +298,14 @@ fn conditions_and_loops(rt: HostRuntime) -> Result<(), Fail> {
 fn conversions_and_faults(rt: HostRuntime) -> Result<(), Fail> {
     let alloc = rt.alloc();
     let quotient = reads_two(alloc, divides(alloc)?)?;
-    assert_eq!(rt; told(alloc, &quotient, b"\x02")?.as_str(), "L0 R2 R255 P4 end");
-    assert_eq!(rt; told(alloc, &quotient, b"\x00")?.as_str(), "L0 R0 R255 Zero");
+    assert_eq!(rt;
+        told(alloc, &quotient, b"\x02")?.as_str(),
+        "L0 R2 R255 P4 end"
+    );
+    assert_eq!(rt;
+        told(alloc, &quotient, b"\x00")?.as_str(),
+        "L0 R0 R255 Zero"
+    );
     let narrow = narrow_result(alloc)?;
     assert_eq!(rt; told(alloc, &narrow, b"")?.as_str(), "L1 L0 L2 P2 end");
     let unset = unset_element(alloc)?;

@@ -14,8 +14,9 @@ ghost use Rattle.clight_typing.specs.TypedPrograms.{typed_items as typed_items_l
 use crate::files::{File, function_number};
 use crate::scope::Scope;
 use cerco_base::{Fault, NoMemory};
+use clight_names::main_name;
 use clight_syntax::typed::{Function, Item};
-use clight_syntax::{Names, Program, Typed, tree};
+use clight_syntax::{Program, Typed, tree};
 use std::alloc::Global;
 
 /// Typed items and the functions that they define.
