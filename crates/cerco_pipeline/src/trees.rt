@@ -20,6 +20,48 @@ const ACCEPTED: [&str; 10] = [
     "void f(void) { x = a || b && c | d ^ e & f == g != h < i > j <= k >= l << m >> n + o - p * q / r % s; }",
 ];
 
+// Texts that are refused behind the first part.
+const REFUSED: [(&str, &str); 38] = [
+    ("", "typedef int t;"),
+    ("struct s {", "};"),
+    ("struct s { int a", "= 1; };"),
+    ("struct s { int a; }", "x;"),
+    ("int t = {", "};"),
+    ("int t = { 1,", "};"),
+    ("int g = 1", "+ 1;"),
+    ("int f(", ");"),
+    ("int f(int a", "[2]);"),
+    ("int f(void", ", int a);"),
+    ("long ", "long a;"),
+    ("unsigned ", "signed a;"),
+    ("char ", "int a;"),
+    ("void f(void) { x = 1; ", "int y; }"),
+    ("void f(void) { int x ", "x = 1; }"),
+    ("void f(void) { ", "else ; }"),
+    ("void f(void) { if (x) ; else ; ", "else ; }"),
+    ("void f(void) { do ; ", "x = 1; }"),
+    ("void f(void) { while (", ") ; }"),
+    ("void f(void) { for (;; y", ") ; }"),
+    ("void f(void) { break ", "x; }"),
+    ("void f(void) { *p ", "+ 1; }"),
+    ("void f(void) { x = f() ", "+ 1; }"),
+    ("void f(void) { x[0] = f", "(); }"),
+    ("void f(void) { x = P1 ", "+ 1; }"),
+    ("void f(void) { x = ", "; }"),
+    ("void f(void) { x = a ", "b; }"),
+    ("void f(void) { x = (int", "*) y; }"),
+    ("void f(void) { x = s.", "1; }"),
+    ("void f(void) { x", "; }"),
+    ("void f(void) { x = y ", "= 1; }"),
+    ("void f(void) { f(x,", "); }"),
+    ("void f(void) { return ", "int; }"),
+    ("void f(void) { x = a + ", "P1; }"),
+    ("void f(void) {} ", ";"),
+    ("void main(void){P1=1", "}"),
+    ("int x", ""),
+    ("void main(void) { break", ""),
+];
+
 // What repeats around the middle of a text, and where the part begins that then nests too deep.
 struct Nest {
     front: &'static str,
@@ -103,6 +145,23 @@ fn refusal(alloc: Global, text: &[u8]) -> Option<Fault> {
 fn each_form_is_read(rt: HostRuntime) -> Result<(), Fail> {
     for text in &ACCEPTED {
         assert_eq!(rt; refusal(rt.alloc(), text.as_bytes()), None);
+    }
+    Ok(())
+}
+
+#[test]
+fn faults_have_their_places(rt: HostRuntime) -> Result<(), Fail> {
+    let alloc = rt.alloc();
+    for (front, back) in &REFUSED {
+        let text = format!(in alloc; "{front}{back}")?;
+        let at = match u32::try_from(front.len()) {
+            Ok(at) => at,
+            Err(_) => 0,
+        };
+        assert_eq!(rt;
+            refusal(alloc, text.as_bytes()),
+            Some(Fault::Refused(Reason::Syntax { at }))
+        );
     }
     Ok(())
 }
