@@ -45,7 +45,7 @@ order-push l c order new callers =
           (rw (map_whole function l c, map_at_end lists l c []) callers);
     }
 
-pub push : (functions : List ℕ) (entries : List Entry) (e : Entry) → IsInOrder functions entries → (Contains (functions_of (map called entries)) e.function → ⊥) → All (Contains (functions_of (map called entries))) e.callers.items → IsInOrder (functions ++ e.function ∷ []) (entries ++ e ∷ [])
+pub push : (functions : List ℕ) (entries : List Entry) (e : Entry) → IsInOrder functions (map called entries) → (Contains (functions_of (map called entries)) e.function → ⊥) → All (Contains (functions_of (map called entries))) e.callers.items → IsInOrder (functions ++ e.function ∷ []) (map called (entries ++ e ∷ []))
 push functions entries e order new callers =
     record {
       numbers = rw (order.numbers, map-append called entries (e ∷ []), map-append (λ (d : Called). d.function) (map called entries) (called e ∷ [])) refl;

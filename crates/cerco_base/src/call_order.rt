@@ -1,5 +1,6 @@
 //! The functions of a program in the order of its calls.
-ghost use Rattle.std.specs.Prelude.{◌≡◌, ◌<◌, ◌++◌, ◌∷◌, [], length, All, Contains, OnOk, OnErr};
+ghost use Rattle.std.specs.Prelude.{◌≡◌, ◌<◌, ◌++◌, ◌∷◌, [], length, map, All, Contains, IfOk, OnOk, OnErr};
+ghost use Rattle.cerco_base.specs.CallOrderView.{called};
 
 use crate::faults::NoMemory;
 use std::alloc::Global;
@@ -22,6 +23,27 @@ pub struct CallOrder {
     entries: Vec<Entry>,
 }
 
+// A copy of a function with its callers.
+fn duplicate_entry(alloc: Global, entry: &Entry) -> Result<Entry, NoMemory>
+    ensures { IfOk result (λ copy. called copy ≡ called entry.now) }
+{
+    Ok(Entry {
+        function: entry.function,
+        callers: Vec::from_slice(alloc, entry.callers.as_slice())?,
+    })
+}
+
+// A copy of functions with their callers.
+fn duplicate_entries(alloc: Global, entries: &[Entry]) -> Result<Vec<Entry>, NoMemory>
+    ensures { IfOk result (λ copies. map called copies.items ≡ map called entries.now) }
+{
+    let mut copies = Vec::new(alloc);
+    for entry in entries {
+        copies.push(duplicate_entry(alloc, entry)?)?;
+    }
+    Ok(copies)
+}
+
 impl Model for CallOrder {
     ghost use Rattle.std.specs.Prelude.{◌≡◌, List, map};
     ghost use Rattle.cerco_base.specs.CallOrder.{Called, IsCallOrder};
@@ -32,7 +54,7 @@ impl Model for CallOrder {
 
     ghost view = { λ o. map called o.entries.items };
 
-    ghost invariant = { λ o. IsInOrder o.functions.items o.entries.items };
+    ghost invariant = { λ o. IsInOrder o.functions.items (map called o.entries.items) };
 }
 
 impl CallOrder {
@@ -63,6 +85,17 @@ impl CallOrder {
             return Err(NoMemory);
         }
         Ok(())
+    }
+
+    /// A copy of the list.
+    pub fn duplicate(&self) -> Result<CallOrder, NoMemory>
+        ensures { IfOk result (λ copy. copy ≡ self.now) }
+    {
+        Ok(CallOrder {
+            alloc: self.alloc,
+            functions: Vec::from_slice(self.alloc, self.functions.as_slice())?,
+            entries: duplicate_entries(self.alloc, self.entries.as_slice())?,
+        })
     }
 
     /// The numbers of the functions, callers first.

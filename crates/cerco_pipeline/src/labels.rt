@@ -1,6 +1,6 @@
 //! Labels given and taken away.
 
-use cerco_base::{Label, NoMemory};
+use cerco_base::{CallOrder, Label, NoMemory};
 use clight_syntax::tree::{Declared, Header, Name, Parameters, Specifiers};
 use clight_syntax::typed::{Arguments, Call, Cond, Expr, Function, Item, Stmt, Test, TypedProgram};
 use clight_syntax::{Names, Piece, Point, Span, Ty, Typed};
@@ -100,6 +100,7 @@ fn program(alloc: Global) -> Result<Typed, NoMemory> {
         main: 0,
         frames,
         data_bytes: 0,
+        calls: CallOrder::new(alloc),
     })
 }
 

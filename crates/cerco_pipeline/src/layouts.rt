@@ -1,6 +1,6 @@
 //! Programs laid out in external RAM.
 
-use cerco_base::{Fault, NoMemory, Reason};
+use cerco_base::{CallOrder, Fault, NoMemory, Reason};
 use clight_layout::lay_out;
 use clight_syntax::tree::{Declared, Header, Name, Parameters, Specifiers};
 use clight_syntax::typed::{Arguments, Call, Function, Home, Stmt, TypedProgram, Variable};
@@ -89,6 +89,7 @@ fn program(alloc: Heap, globals: u32, first: &[u32], second: &[u32]) -> Result<T
         main: 1,
         frames: Vec::new(alloc),
         data_bytes: 0,
+        calls: CallOrder::new(alloc),
     })
 }
 

@@ -1,6 +1,6 @@
 //! Runs of the evaluator.
 
-use cerco_base::{Event, Label, NoMemory};
+use cerco_base::{CallOrder, Event, Label, NoMemory};
 use clight_meaning::{Evaluator, Turn};
 use clight_syntax::tree::{
     BinaryOperator, CallTarget, Declaration, Declared, Header, Name, Parameters, Specifiers,
@@ -152,6 +152,7 @@ fn labelled(
         main,
         frames: Vec::new(alloc),
         data_bytes: 0,
+        calls: CallOrder::new(alloc),
     };
     Labelled {
         program,

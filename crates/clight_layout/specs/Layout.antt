@@ -41,21 +41,22 @@ pub record IsStart {L : Type 0} (p : TypedProgram L) (f at : ℕ) : Type 0 where
   pub is_largest : IsLargestSumBefore (length (callees p.functions)) (Calls (callees p.functions)) (frame_sizes p) f before
   pub is : at ≡ 1 + global_bytes p + before
 
--- a program with its frames from these addresses on, and with so many bytes in all
-abbrev pub laid_out : {L : Type 0} → TypedProgram L → List ℕ → ℕ → TypedProgram L
-laid_out p starts total = record p {
+-- a program with its frames from these addresses on, with so many bytes in all, and with its calls in this order
+abbrev pub laid_out : {L : Type 0} → TypedProgram L → List ℕ → ℕ → List Called → TypedProgram L
+laid_out p starts total calls = record p {
   variables = with_frames p.structs p.functions starts (placed Globals p.structs 1 p.variables);
   frames = starts;
   data_bytes = total;
+  calls = calls;
 }
 
--- q is p with its layout, and this is the order of its calls
-pub record IsLayout {L : Type 0} (p q : TypedProgram L) (calls : List Called) : Type 0 where
-  pub order : IsOrderOf (callees p.functions) calls
+-- q is p with its layout and the order of its calls
+pub record IsLayout {L : Type 0} (p q : TypedProgram L) : Type 0 where
+  pub order : IsOrderOf (callees p.functions) q.calls
   pub no_cycle : HasNoCycle (callees p.functions)
   pub depth : (n : ℕ) × IsDepth (callees p.functions) n × (n ≤ greatest_depth)
   pub count : length q.frames ≡ length p.functions
   pub starts : (f : ℕ) → f < length p.functions → IsStart p f (slice_index q.frames f)
   pub total : IsTotal p q.data_bytes
   pub fits : q.data_bytes ≤ greatest_data
-  pub program : q ≡ laid_out p q.frames q.data_bytes
+  pub program : q ≡ laid_out p q.frames q.data_bytes q.calls

@@ -7,11 +7,9 @@ use Rattle.cerco_base.specs.declared.reasons.Reason.{Reason}
 use Rattle.cerco_base.specs.declared.reasons.Reason.TheVariants.{Recursion, StackFull, DataFull}
 use Rattle.call_graph.specs.CallPaths.{Calls, IsFirstOnCycle}
 use Rattle.clight_syntax.specs.TypedTrees.{Function, TypedProgram}
-use Rattle.clight_syntax.specs.TypedViews.{program_of}
-use Rattle.clight_layout.specs.declared.layout.LaidOut.{LaidOut}
 use Rattle.clight_layout.specs.declared.layout.Measured.{Measured}
 use Rattle.clight_layout.specs.Calls.{callees}
-use Rattle.clight_layout.specs.Layout.{HasNoCycle, IsDepth, IsTotal, IsStart, IsLayout, greatest_depth, greatest_data}
+use Rattle.clight_layout.specs.Layout.{HasNoCycle, IsDepth, IsTotal, IsStart, greatest_depth, greatest_data}
 
 -- where the name of a function stands in its definition
 abbrev pub defined_at : {L : Type 0} → Option (Function L) → ℕ
@@ -42,6 +40,3 @@ pub record IsMeasured {L : Type 0} (p : TypedProgram L) (measured : Measured) : 
   pub starts : (f : ℕ) → f < length p.functions → IsStart p f (slice_index measured.starts.items f)
   pub total : IsTotal p measured.total
   pub fits : measured.total ≤ greatest_data
-
-abbrev pub IsLaidOut : TypedProgram (Unit {0}) → LaidOut → Type 0
-IsLaidOut p x = IsLayout p (program_of x.program) x.order

@@ -3,8 +3,8 @@ ghost use Rattle.std.specs.Prelude.{◌≡◌, ℕ, ◌<◌, ◌≤◌, length, 
 ghost use Rattle.call_graph.specs.CallPaths.{IsOrderOf};
 ghost use Rattle.clight_syntax.specs.TypedViews.{function_of, program_of};
 ghost use Rattle.clight_layout.specs.Calls.{callees};
-ghost use Rattle.clight_layout.specs.Layout.{HasNoCycle, IsDepth, greatest_depth, global_bytes, frame_sizes as frame_sizes_lem, laid_out};
-ghost use Rattle.clight_layout.specs.Outcomes.{defined_at as defined_at_lem, Answers, IsMeasured, IsLaidOut};
+ghost use Rattle.clight_layout.specs.Layout.{HasNoCycle, IsDepth, greatest_depth, global_bytes, frame_sizes as frame_sizes_lem, laid_out, IsLayout};
+ghost use Rattle.clight_layout.specs.Outcomes.{defined_at as defined_at_lem, Answers, IsMeasured};
 
 use crate::graph::graph_of;
 use crate::sizes::{Area, bytes_of, frame_sizes};
@@ -19,15 +19,6 @@ use std::alloc::Global;
 const GREATEST_DEPTH: u32 = 64;
 
 const GREATEST_DATA: u32 = 65_534;
-
-/// A program with its layout.
-#[derive(Drop)]
-pub struct LaidOut {
-    /// The program, with the addresses of its variables and frames.
-    pub program: Typed,
-    /// The order of its calls.
-    pub order: CallOrder,
-}
 
 /// Where the frames of a program begin, and how many bytes the globals and the largest frames of a call path have.
 #[derive(Drop)]
@@ -120,9 +111,9 @@ fn measure(alloc: Global, program: &Typed, order: &CallOrder) -> Result<Measured
     })
 }
 
-// Gives a program its addresses.
-fn with_addresses(program: Typed, measured: Measured) -> Result<Typed, NoMemory>
-    ensures { IfOk result (λ q. program_of q ≡ laid_out (program_of program) measured.starts.items measured.total) }
+// Gives a program its addresses and the order of its calls.
+fn with_addresses(program: Typed, measured: Measured, order: CallOrder) -> Result<Typed, NoMemory>
+    ensures { IfOk result (λ q. program_of q ≡ laid_out (program_of program) measured.starts.items measured.total order) }
 {
     let mut program = program;
     let structs = program.structs.as_slice();
@@ -135,23 +126,24 @@ fn with_addresses(program: Typed, measured: Measured) -> Result<Typed, NoMemory>
     )?;
     program.frames = measured.starts;
     program.data_bytes = measured.total;
+    program.calls = order;
     Ok(program)
 }
 
-/// Lays a program out in external RAM: the globals from address 1 on, and the frame of each function behind them and behind the
-/// largest sum of frames over a call path that leads to it.
+/// Gives a program the order of its calls, and lays it out in external RAM: the globals from address 1 on, and the frame of each
+/// function behind them and behind the largest sum of frames over a call path that leads to it.
 ///
 /// # Errors
 ///
 /// The first of these: `Recursion` at the name of the first function on a cycle of calls, `StackFull` where a call path has more than
 /// 64 functions, `DataFull` where the globals and the largest frames of a call path have more than 65,534 bytes. Or want of memory. The
 /// program is dropped then.
-pub fn lay_out(alloc: Global, program: Typed) -> Result<LaidOut, Fault>
-    ensures { Answers (program_of program) (λ x. IsLaidOut (program_of program) x) result }
+pub fn lay_out(alloc: Global, program: Typed) -> Result<Typed, Fault>
+    ensures { Answers (program_of program) (λ q. IsLayout (program_of program) (program_of q)) result }
 {
     let order = order_of(alloc, &program)?;
     check_depth(alloc, &program, &order)?;
     let measured = measure(alloc, &program, &order)?;
-    let program = with_addresses(program, measured)?;
-    Ok(LaidOut { program, order })
+    let program = with_addresses(program, measured, order)?;
+    Ok(program)
 }

@@ -8,4 +8,4 @@ pub mod sizes;
 mod starts;
 mod variables;
 
-pub use layout::{LaidOut, lay_out};
+pub use layout::lay_out;

@@ -190,6 +190,7 @@ program structs items variables functions main = record {
   main = main;
   frames = [];
   data_bytes = 0;
+  calls = [];
 }
 
 -- a program that is `main` alone, with these locals

@@ -67,6 +67,7 @@ main_with body right = record {
   main = 0;
   frames = 1 ∷ [];
   data_bytes = 0;
+  calls = [];
 }
 
 abbrev hundreds : Costs

@@ -209,7 +209,7 @@ functions_numbered (f ∷ fs) n =
 
 abbrev pub labelled_from : TypedProgram (Unit {0}) → TypedProgram Label
 labelled_from x =
-    record { names = x.names; items = x.items; span = x.span; structs = x.structs; variables = x.variables; functions = functions_numbered x.functions 0; main = x.main; frames = x.frames; data_bytes = x.data_bytes }
+    record { names = x.names; items = x.items; span = x.span; structs = x.structs; variables = x.variables; functions = functions_numbered x.functions 0; main = x.main; frames = x.frames; data_bytes = x.data_bytes; calls = x.calls }
 
 -- ---- a tree whose labels follow on each other is that one
 

@@ -1,9 +1,9 @@
 -- The integer types of constants, the integer promotions, and the common type of two operands (ISO/IEC 9899:1999, 6.4.4.1,
 -- 6.3.1.1 and 6.3.1.8), over the size and the signedness of a type.
-use Rattle.std.specs.Prelude.{ℕ, ◌-◌, ◌/◌, ◌^◌, Bool, true, false, ◌&&◌, List, [], ◌∷◌, nat_lt, if◌then◌else◌}
+use Rattle.std.specs.Prelude.{ℕ, ◌/◌, ◌^◌, Bool, true, false, ◌&&◌, List, [], ◌∷◌, nat_lt, if◌then◌else◌}
 use Rattle.clight_syntax.specs.declared.symbol.Literal.{Literal}
 use Rattle.clight_syntax.specs.declared.symbol.Radix.{Radix}
-use Rattle.clight_syntax.specs.declared.symbol.Radix.TheVariants.{Decimal, Octal, Hexadecimal}
+use Rattle.clight_syntax.specs.declared.symbol.Radix.TheVariants.{Decimal}
 use Rattle.clight_syntax.specs.Types.{CType, Integer, Size, One, Two, Four}
 
 abbrev pub unsigned_char : CType

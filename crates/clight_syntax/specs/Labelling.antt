@@ -80,6 +80,7 @@ without_labels x = record {
   main = x.main;
   frames = x.frames;
   data_bytes = x.data_bytes;
+  calls = x.calls;
 }
 
 -- ---- where a part stands: the offset of the first byte of its first token, and the one behind the last byte of its last token

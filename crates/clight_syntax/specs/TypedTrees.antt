@@ -1,6 +1,7 @@
 -- A program whose expressions have types and whose names have meanings, as definitions speak of it: without the pointers of the
 -- program's own tree. L is what stands at each place of a cost label: nothing, or the label.
-use Rattle.std.specs.Prelude.{ℕ, List, Option}
+use Rattle.std.specs.Prelude.{ℕ, List, Option, Some, None, slice_get}
+use Rattle.cerco_base.specs.CallOrder.{Called}
 use Rattle.clight_syntax.specs.declared.span.Span.{Span}
 use Rattle.clight_syntax.specs.declared.symbol.Literal.{Literal}
 use Rattle.clight_syntax.specs.declared.tree.Name.{Name}
@@ -152,3 +153,13 @@ pub record TypedProgram (L : Type 0) : Type 0 where
   pub main : ℕ
   pub frames : List ℕ
   pub data_bytes : ℕ
+  -- the functions in the order of their calls
+  pub calls : List Called
+
+abbrev pub variable_address : Option Variable' → ℕ
+variable_address (Some x) = x.address
+variable_address None = 0
+
+-- the first address of a variable's block, 0 where it has none
+abbrev pub address_at : {L : Type 0} → TypedProgram L → ℕ → ℕ
+address_at p v = variable_address (slice_get p.variables v)

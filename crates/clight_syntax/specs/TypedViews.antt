@@ -150,6 +150,7 @@ program_of x = record {
   main = x.main;
   frames = x.frames.items;
   data_bytes = x.data_bytes;
+  calls = x.calls;
 }
 
 abbrev pub labelled_of : Labelled → p.TypedProgram Label

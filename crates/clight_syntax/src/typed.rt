@@ -1,6 +1,8 @@
 //! Programs whose expressions have types and whose names have meanings, with something at each place of a cost label: nothing
 //! in a program that was checked, a label in one that was labelled. They keep all tokens of the source.
 
+ghost use Rattle.std.specs.Prelude.{◌≡◌, slice_index_or};
+
 use crate::names::Names;
 use crate::points::Points;
 use crate::span::Span;
@@ -10,7 +12,7 @@ use crate::tree::{
     Prototype, Specifiers, StructDefinition,
 };
 use crate::types::Ty;
-use cerco_base::Label;
+use cerco_base::{CallOrder, Label};
 
 /// An expression with its type, the first field of each form.
 #[derive(Drop)]
@@ -263,6 +265,48 @@ pub struct TypedProgram<L: Drop> {
     pub frames: Vec<u16>,
     /// The bytes of the globals and of the largest frames of a call path.
     pub data_bytes: u16,
+    /// The functions in the order of their calls.
+    pub calls: CallOrder,
+}
+
+impl<L: Drop> TypedProgram<L> {
+    ghost use Rattle.clight_syntax.specs.TypedViews.{program_of};
+    ghost use Rattle.clight_syntax.specs.TypedTrees.{address_at};
+
+    /// The functions by number, each with those that call it, and each caller before those that it calls.
+    pub fn call_order(&self) -> &CallOrder
+        ensures { result.now ≡ (program_of self.now).calls }
+    {
+        &self.calls
+    }
+
+    /// The first address in external RAM of a variable that is a global, an array, a struct, or a parameter or local whose address
+    /// is taken. 0 for any other number.
+    pub fn address(&self, variable: u32) -> u16
+        ensures { result ≡ address_at (program_of self.now) variable }
+    {
+        match self.variables.get(variable as usize) {
+            Some(variable) => variable.address,
+            None => 0,
+        }
+    }
+
+    /// The address in external RAM at which the frame of a function begins, 0 where there is no such function.
+    pub fn frame(&self, function: u32) -> u16
+        ensures { result ≡ slice_index_or (program_of self.now).frames function 0 }
+    {
+        match self.frames.get(function as usize) {
+            Some(&frame) => frame,
+            None => 0,
+        }
+    }
+
+    /// The bytes of the globals and of the largest frames of a call path: 65,534 at most in a program that was checked.
+    pub fn data(&self) -> u16
+        ensures { result ≡ (program_of self.now).data_bytes }
+    {
+        self.data_bytes
+    }
 }
 
 /// A program that was checked.
@@ -273,4 +317,44 @@ pub type Typed = TypedProgram<()>;
 pub struct Labelled {
     pub program: TypedProgram<Label>,
     pub points: Points,
+}
+
+impl Labelled {
+    ghost use Rattle.clight_syntax.specs.TypedViews.{labelled_of};
+    ghost use Rattle.clight_syntax.specs.TypedTrees.{address_at};
+
+    /// As `TypedProgram::call_order`.
+    pub fn call_order(&self) -> &CallOrder
+        ensures { result.now ≡ (labelled_of self.now).calls }
+    {
+        self.program.call_order()
+    }
+
+    /// As `TypedProgram::address`.
+    pub fn address(&self, variable: u32) -> u16
+        ensures { result ≡ address_at (labelled_of self.now) variable }
+    {
+        self.program.address(variable)
+    }
+
+    /// As `TypedProgram::frame`.
+    pub fn frame(&self, function: u32) -> u16
+        ensures { result ≡ slice_index_or (labelled_of self.now).frames function 0 }
+    {
+        self.program.frame(function)
+    }
+
+    /// As `TypedProgram::data`.
+    pub fn data(&self) -> u16
+        ensures { result ≡ (labelled_of self.now).data_bytes }
+    {
+        self.program.data()
+    }
+
+    /// The places in the source at which the annotations stand.
+    pub fn points(&self) -> &Points
+        ensures { result.now ≡ self.now.points }
+    {
+        &self.points
+    }
 }

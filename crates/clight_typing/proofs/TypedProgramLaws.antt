@@ -383,7 +383,7 @@ program_given t h =
     ∙ ap (λ t. let o : Checked (TypedProgram (Unit {0})) = Ok t in o) same_program
   where
     made : List StructType → List Variable' → ℕ → TypedProgram (Unit {0})
-    made structs variables main = record t { structs = structs; variables = variables; main = main; frames = []; data_bytes = 0 }
+    made structs variables main = record t { structs = structs; variables = variables; main = main; frames = []; data_bytes = 0; calls = [] }
 
     same_program : program_with (program_source t) (result_of t.items t.functions h.end) ≡ without_layout t
     same_program =

@@ -77,7 +77,7 @@ without_address x = record x { address = 0 }
 
 -- the variables with no addresses, and no frames
 abbrev pub without_layout : {L : Type 0} → TypedProgram L → TypedProgram L
-without_layout x = record x { variables = map without_address x.variables; frames = []; data_bytes = 0 }
+without_layout x = record x { variables = map without_address x.variables; frames = []; data_bytes = 0; calls = [] }
 
 -- what is declared at the program's end
 pub record IsWellTyped {L : Type 0} (x : TypedProgram L) : Type 0 where

@@ -238,6 +238,7 @@ program_with p x = record {
   main = function_number x.end.definitions (main_name p.names);
   frames = [];
   data_bytes = 0;
+  calls = [];
 }
 
 abbrev pub typed_program : s.Program → Checked (TypedProgram (Unit {0}))

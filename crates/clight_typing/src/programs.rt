@@ -13,7 +13,7 @@ ghost use Rattle.clight_typing.specs.TypedPrograms.{typed_items as typed_items_l
 
 use crate::files::{File, function_number};
 use crate::scope::Scope;
-use cerco_base::{Fault, NoMemory};
+use cerco_base::{CallOrder, Fault, NoMemory};
 use clight_names::main_name;
 use clight_syntax::typed::{Function, Item};
 use clight_syntax::{Program, Typed, tree};
@@ -134,6 +134,7 @@ fn typed_tree(alloc: Global, program: Program) -> Result<Typed, Fault>
         main,
         frames: Vec::new(alloc),
         data_bytes: 0,
+        calls: CallOrder::new(alloc),
     })
 }
 

@@ -42,6 +42,7 @@ fn give_labels(alloc: Global, typed: Typed) -> Result<Labelled, NoMemory>
         main,
         frames,
         data_bytes,
+        calls,
     } = typed;
     let mut marker = Marker::new(alloc);
     marker.add(0, Piece::Start)?;
@@ -58,6 +59,7 @@ fn give_labels(alloc: Global, typed: Typed) -> Result<Labelled, NoMemory>
             main,
             frames,
             data_bytes,
+            calls,
         },
         points,
     })
@@ -108,6 +110,7 @@ pub fn unlabel(alloc: Global, labelled: &Labelled) -> Result<Typed, NoMemory>
         main: program.main,
         frames: program.frames.clone()?,
         data_bytes: program.data_bytes,
+        calls: program.calls.duplicate()?,
     })
 }
 
