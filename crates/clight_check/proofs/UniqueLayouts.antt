@@ -88,17 +88,19 @@ one_reason p (r.Recursion i) (r.StackFull m) (f, first, is) (none, also, larger)
 one_reason p (r.Recursion i) (r.DataFull m) (f, first, is) (none, fits, also, larger) = absurd (none f first.cycle)
 one_reason p (r.Recursion i) b x y = absurd y
 one_reason p (r.StackFull n) (r.Recursion j) (none, is, more) (g, second, also) = absurd (none g second.cycle)
-one_reason p (r.StackFull n) (r.StackFull m) (none, is, more) (no, also, larger) = ap r.StackFull (one_sum _ _ _ n m is also)
-one_reason p (r.StackFull n) (r.DataFull m) (none, is, more) (no, fits, also, larger) =
+one_reason p (r.StackFull n) (r.StackFull m) (none, is, more) (again, also, larger) = ap r.StackFull (one_sum _ _ _ n m is also)
+one_reason p (r.StackFull n) (r.DataFull m) (none, is, more) (again, fits, also, larger) =
     let e = one_sum _ _ _ n fits.0 is fits.1 in
     let le = fits.2 in
-    omega arith
+    let never : ⊥ = omega arith in
+    absurd never
 one_reason p (r.StackFull n) b x y = absurd y
 one_reason p (r.DataFull n) (r.Recursion j) (none, fits, is, more) (g, second, also) = absurd (none g second.cycle)
-one_reason p (r.DataFull n) (r.StackFull m) (none, fits, is, more) (no, also, larger) =
+one_reason p (r.DataFull n) (r.StackFull m) (none, fits, is, more) (again, also, larger) =
     let e = one_sum _ _ _ m fits.0 also fits.1 in
     let le = fits.2 in
-    omega arith
-one_reason p (r.DataFull n) (r.DataFull m) (none, fits, is, more) (no, within, also, larger) = ap r.DataFull (one_total p n m is also)
+    let never : ⊥ = omega arith in
+    absurd never
+one_reason p (r.DataFull n) (r.DataFull m) (none, fits, is, more) (again, within, also, larger) = ap r.DataFull (one_total p n m is also)
 one_reason p (r.DataFull n) b x y = absurd y
 one_reason p a b x y = absurd x
