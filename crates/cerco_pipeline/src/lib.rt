@@ -2,11 +2,11 @@
 #![tactic(auto)]
 
 #[cfg(test)]
+mod checks;
+#[cfg(test)]
 mod labels;
 #[cfg(test)]
-mod layouts;
-#[cfg(test)]
-mod names;
+mod ring_buffer;
 #[cfg(test)]
 mod runs;
 #[cfg(test)]
