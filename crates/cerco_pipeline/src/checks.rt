@@ -1,11 +1,7 @@
 //! Programs that are checked: the answer for each text, by the rules of the language.
 
-use cerco_base::{Fault, Label, NameKind, NoMemory, Reason, TypeKind};
-use clight_check::check;
-use clight_reader::parse;
-use clight_syntax::{Labelled, Piece, Typed};
-use clight_tokens::tokens;
-use cost_labels::{label, unlabel};
+use crate::sources::checked;
+use cerco_base::{Fault, NameKind, NoMemory, Reason, TypeKind};
 use std::alloc::Global;
 use std::test::Fail;
 
@@ -575,12 +571,6 @@ const DATA: [(&str, Option<u32>); 9] = [
     ),
     ("char t[65534];void main(void){int x;x=1;}", None),
 ];
-
-fn checked(alloc: Global, text: &[u8]) -> Result<Typed, Fault> {
-    let list = tokens(alloc, text)?;
-    let program = parse(alloc, &list)?;
-    check(alloc, program)
-}
 
 fn refusal(alloc: Global, text: &[u8]) -> Option<Fault> {
     checked(alloc, text).err()

@@ -4,10 +4,10 @@
 #[cfg(test)]
 mod checks;
 #[cfg(test)]
-mod labels;
+mod meanings;
 #[cfg(test)]
 mod ring_buffer;
 #[cfg(test)]
-mod runs;
+mod sources;
 #[cfg(test)]
 mod trees;

@@ -1,50 +1,11 @@
 //! A program that gets its labels, and gives them back.
 
-use cerco_base::{Fault, Label};
-use clight_check::check;
-use clight_reader::parse;
+use crate::sources::{RING, checked};
+use cerco_base::Label;
 use clight_syntax::typed::Home;
-use clight_syntax::{Piece, Point, Typed};
-use clight_tokens::tokens;
+use clight_syntax::{Piece, Point};
 use cost_labels::{label, unlabel};
-use std::alloc::Global;
 use std::test::Fail;
-
-const RING: &str = "unsigned char ring[32];
-unsigned char head;
-unsigned char tail;
-unsigned char fill;
-unsigned int total;
-unsigned char last = 255;
-unsigned char level = 255;
-/* ring buffer */
-void put(unsigned char b) { ring[head] = b; head = (head + 1) & 31; fill = fill + 1; }
-unsigned char get(void) {
-  unsigned char b;
-  b = ring[tail]; tail = (tail + 1) & 31; fill = fill - 1;
-  return b;
-}
-void add(unsigned char b) {
-  unsigned char old;
-  if (fill >= 16) { old = get(); total = total - old; }
-  put(b);
-  total = total + b;
-}
-void sample(void) {
-  unsigned char b;
-  b = P1;
-  if (b == last) level = b; // two equal readings
-  last = b;
-  add(level);
-}
-void main(void) { while (1) { sample(); P1 = total >> 4; } }
-";
-
-fn ring(alloc: Global) -> Result<Typed, Fault> {
-    let list = tokens(alloc, RING.as_bytes())?;
-    let program = parse(alloc, &list)?;
-    check(alloc, program)
-}
 
 fn point(at: u32, piece: Piece) -> Point {
     Point { at, piece }
@@ -53,7 +14,7 @@ fn point(at: u32, piece: Piece) -> Point {
 #[test]
 fn a_program_is_laid_out(rt: HostRuntime) -> Result<(), Fail> {
     let alloc = rt.alloc();
-    let program = ring(alloc)?;
+    let program = checked(alloc, RING.as_bytes())?;
     assert_eq!(rt; program.data(), 39);
     assert_eq!(rt; program.frames.as_slice(), [40; 5].as_slice());
     let mut addresses = Vec::new(alloc);
@@ -78,8 +39,8 @@ fn a_program_is_laid_out(rt: HostRuntime) -> Result<(), Fail> {
 #[test]
 fn labels_are_given_and_taken_away(rt: HostRuntime) -> Result<(), Fail> {
     let alloc = rt.alloc();
-    let typed = ring(alloc)?;
-    let labelled = label(alloc, ring(alloc)?)?;
+    let typed = checked(alloc, RING.as_bytes())?;
+    let labelled = label(alloc, checked(alloc, RING.as_bytes())?)?;
     assert_eq!(rt;
         labelled.points.as_slice(),
         [

@@ -1,8 +1,7 @@
 //! The tree of a source, or why it has none.
 
+use crate::sources::parsed;
 use cerco_base::{Fault, NoMemory, Reason};
-use clight_reader::parse;
-use clight_tokens::tokens;
 use std::alloc::Global;
 use std::test::Fail;
 
@@ -131,14 +130,8 @@ impl Nest {
     }
 }
 
-fn read(alloc: Global, text: &[u8]) -> Result<(), Fault> {
-    let list = tokens(alloc, text)?;
-    let _program = parse(alloc, &list)?;
-    Ok(())
-}
-
 fn refusal(alloc: Global, text: &[u8]) -> Option<Fault> {
-    read(alloc, text).err()
+    parsed(alloc, text).err()
 }
 
 #[test]
