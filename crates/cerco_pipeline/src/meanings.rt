@@ -1,7 +1,7 @@
 //! What programs do, and where their labels stand, from their texts.
 
 use crate::sources::{RING, labelled};
-use cerco_base::{Event, Label};
+use cerco_base::{Event, Label, NoMemory};
 use clight_meaning::{Evaluator, Turn};
 use clight_syntax::{Piece, Point};
 use std::alloc::Global;
@@ -21,7 +21,11 @@ const QUOTIENT: &str = "void main(void){unsigned char a;unsigned char b;a=P1;b=8
 
 // Programs, scripts, and what is told of their runs.
 const RUNS: [(&str, &[u8], &str); 15] = [
-    ("void main(void){unsigned char x;x=P1;}", b"\x07", "L0 R7 end"),
+    (
+        "void main(void){unsigned char x;x=P1;}",
+        b"\x07",
+        "L0 R7 end",
+    ),
     (READS_TWO, b"\x09", "L0 R9 P9 R255 P255 end"),
     (ARMS, b"\x01", "L0 R1 L1 end"),
     (ARMS, b"\x00", "L0 R0 L2 P1 end"),
@@ -57,24 +61,68 @@ const BEHAVIOURS: [(&str, &str, &str); 22] = [
     ("", "int a;a=-4;P1=a>>1;", "P254 end"),
     ("", "signed char a;a=-128;a=a-1;P1=a;", "P127 end"),
     ("", "unsigned char a;int b;P1=a;P1=b+1;", "P0 P1 end"),
-    ("int g=-2;unsigned char t[2]={3};", "P1=g;P1=t[0]+t[1];", "P254 P3 end"),
+    (
+        "int g=-2;unsigned char t[2]={3};",
+        "P1=g;P1=t[0]+t[1];",
+        "P254 P3 end",
+    ),
     ("", "unsigned char a[2];P1=a[0];", "Unset"),
     ("", "int a[3];a[0]=1;a[2]=1;P1=a[1];", "Unset"),
-    ("struct s{char a;char b;};", "struct s x;x.a=1;P1=x.b;", "Unset"),
+    (
+        "struct s{char a;char b;};",
+        "struct s x;x.a=1;P1=x.b;",
+        "Unset",
+    ),
     ("unsigned char a[2];", "P1=a[1];P1=a[2];", "P0 Outside"),
     ("unsigned char a[2];", "P1=a[-1];", "Outside"),
     ("unsigned char a[2];", "a[2]=1;", "Outside"),
-    ("unsigned char a[2];", "unsigned char *p;p=a;p=p+2;p=p+1;", "Outside"),
+    (
+        "unsigned char a[2];",
+        "unsigned char *p;p=a;p=p+2;p=p+1;",
+        "Outside",
+    ),
     ("", "unsigned char *p;*p=1;", "Outside"),
-    ("", "unsigned char a;unsigned char b;b=7;a=P1;a=a-255;P1=b/a;", "R255 Zero"),
-    ("", "unsigned char a;unsigned char b;b=7;a=P1;a=a-255;P1=b%a;", "R255 Zero"),
+    (
+        "",
+        "unsigned char a;unsigned char b;b=7;a=P1;a=a-255;P1=b/a;",
+        "R255 Zero",
+    ),
+    (
+        "",
+        "unsigned char a;unsigned char b;b=7;a=P1;a=a-255;P1=b%a;",
+        "R255 Zero",
+    ),
     ("int a[2];int b[2];", "P1=&a[0]<&b[0];", "Compare"),
-    ("int a[2];int b[2];", "P1=&a[0]==&b[0];P1=&a[2]==&b[0];", "P0 Compare"),
-    ("int a[2];", "int *p;P1=&a[2]>&a[1];P1=p<&a[0];", "P1 Compare"),
-    ("int *p;void f(void){int x;x=5;p=&x;}", "int *q;f();q=p;P1=1;P1=*q;", "L0 L2 P1 Dead"),
-    ("int *p;void f(void){int x;x=5;p=&x;}", "f();P1=p==p;", "L0 L2 Dead"),
-    ("unsigned char f(void){return 258;}", "unsigned char x;x=f();P1=x;", "L0 L2 P2 end"),
-    ("unsigned char f(void){}", "unsigned char x;x=7;x=f();P1=x;", "L0 L2 P0 end"),
+    (
+        "int a[2];int b[2];",
+        "P1=&a[0]==&b[0];P1=&a[2]==&b[0];",
+        "P0 Compare",
+    ),
+    (
+        "int a[2];",
+        "int *p;P1=&a[2]>&a[1];P1=p<&a[0];",
+        "P1 Compare",
+    ),
+    (
+        "int *p;void f(void){int x;x=5;p=&x;}",
+        "int *q;f();q=p;P1=1;P1=*q;",
+        "L0 L2 P1 Dead",
+    ),
+    (
+        "int *p;void f(void){int x;x=5;p=&x;}",
+        "f();P1=p==p;",
+        "L0 L2 Dead",
+    ),
+    (
+        "unsigned char f(void){return 258;}",
+        "unsigned char x;x=f();P1=x;",
+        "L0 L2 P2 end",
+    ),
+    (
+        "unsigned char f(void){}",
+        "unsigned char x;x=7;x=f();P1=x;",
+        "L0 L2 P0 end",
+    ),
 ];
 
 // What is told of a run up to its end, its fault, or so many labels.
@@ -111,7 +159,10 @@ fn programs_do_what_they_mean(rt: HostRuntime) -> Result<(), Fail> {
     let endless = told(alloc, DO_LOOP, b"\x00\x01", 6)?;
     assert_eq!(rt; endless.as_str(), "L0 R0 R1 L2 L3 L2 L3 L2 ");
     let ring = told(alloc, RING, b"", 11)?;
-    assert_eq!(rt; ring.as_str(), "L11 L12 L7 R255 L8 L2 L5 L0 L6 L10 L13 P15 L12 ");
+    assert_eq!(rt;
+        ring.as_str(),
+        "L11 L12 L7 R255 L8 L2 L5 L0 L6 L10 L13 P15 L12 "
+    );
     for (declarations, body, want) in &BEHAVIOURS {
         let text = format!(in alloc; "{declarations}void main(void){{{body}}}")?;
         let words = told(alloc, &text, b"", 40)?;
@@ -171,24 +222,37 @@ fn labels_stand_at_their_places(rt: HostRuntime) -> Result<(), Fail> {
     Ok(())
 }
 
-// The events of long programs: their labels and how many values they write.
+// So many times a part of a text.
+fn repeat(text: &mut String, part: &str, times: u32) -> Result<(), NoMemory> {
+    for _ in 0..times {
+        text.push_str(part)?;
+    }
+    Ok(())
+}
+
 #[test]
 fn long_programs_run_to_their_end(rt: HostRuntime) -> Result<(), Fail> {
     let alloc = rt.alloc();
     let mut text = String::new(alloc);
-    let mut want = String::new(alloc);
     text.push_str("void main(void){unsigned char i;i=0;while(i<2){")?;
-    want.push_str("L0 L1 ")?;
-    for turn in 0..2 {
-        for _ in 0..800 {
-            if turn == 0 {
-                text.push_str("P1=i;")?;
-            }
-            want.push_str(if turn == 0 { "P0 " } else { "P1 " })?;
-        }
-        want.push_str(if turn == 0 { "L1 " } else { "L2 end" })?;
-    }
+    repeat(&mut text, "P1=i;", 800)?;
     text.push_str("i=i+1;}}")?;
+    let mut want = String::new(alloc);
+    want.push_str("L0 L1 ")?;
+    repeat(&mut want, "P0 ", 800)?;
+    want.push_str("L1 ")?;
+    repeat(&mut want, "P1 ", 800)?;
+    want.push_str("L2 end")?;
+    assert_eq!(rt; told(alloc, &text, b"", 40)?.as_str(), want.as_str());
+
+    let mut text = String::new(alloc);
+    text.push_str("void main(void){")?;
+    repeat(&mut text, "P1=1;", 4000)?;
+    text.push_str("}")?;
+    let mut want = String::new(alloc);
+    want.push_str("L0 ")?;
+    repeat(&mut want, "P1 ", 4000)?;
+    want.push_str("end")?;
     assert_eq!(rt; told(alloc, &text, b"", 40)?.as_str(), want.as_str());
     Ok(())
 }
