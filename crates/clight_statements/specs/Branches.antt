@@ -9,25 +9,9 @@ use Rattle.clight_parts.specs.Forms.{Form, Place, AsStatement, AsFirst, AsStep, 
 use Rattle.clight_parts.specs.Expressions.{first_word, next_word, cast_words, operand}
 use Rattle.clight_parts.specs.Statements.{local_words, finish, begin_call, begin_call_to}
 
--- the first word of a cast
-abbrev pub cast_start : {b : Build} → List (Form b) → Symbol → Span → Mode b
-cast_start k y a = elim (first_word y a) [ None ↦ Refused | Some type ↦ cast_words type k ]
-
--- a further word of a cast
-abbrev pub cast_more : {b : Build} → (left : Span) → Specifiers → List (Form b) → Symbol → Span → Mode b
-cast_more left type k y a = elim (next_word type y a) [ None ↦ Refused | Some longer ↦ CastWords left longer k ]
-
 -- the first word of a local, or a statement that begins with an operand
 abbrev pub local_start : (b : Build) → List (Form b) → Symbol → Span → Mode b
 local_start b k y a = elim (first_word y a) [ None ↦ operand b (InTarget AsStatement ∷ k) y a | Some type ↦ local_words type k ]
-
--- a statement joins what holds statements, or is the body of a `do`
-abbrev pub gathered : (b : Build) → StmtOf b → Form b → List (Form b) → Mode b
-gathered b x (InDo a) k = DoBody a x k
-gathered b x (InBlock left xs) k = Statement (InBlock left (more_statements b xs x) ∷ k)
-gathered b x (InLocals front) k = Statement (InBody front (more_statements b (no_statements b) x) ∷ k)
-gathered b x (InBody front xs) k = Statement (InBody front (more_statements b xs x) ∷ k)
-gathered b x _ k = Refused
 
 -- the forms that hold a whole value behind `target =`
 abbrev pub close_step : (b : Build) → Span → ExprOf b → Place b → ExprOf b → Span → List (Form b) → Mode b
@@ -38,10 +22,6 @@ abbrev pub end_value : (b : Build) → Span → ExprOf b → Place b → ExprOf 
 end_value b a e AsStatement target equals k = finish b (assign b target equals e a) k
 end_value b a e (AsFirst word left) target equals k = ForCondition (for_start b word left (just_assignment b (assignment b target equals e)) a) k
 end_value b a e (AsStep middle) target equals k = Refused
-
-abbrev pub read_value : {b : Build} → Span → Place b → ExprOf b → Span → List (Form b) → Mode b
-read_value a AsStatement target equals k = StatementEnd (ReadPending target equals a) k
-read_value a _ target equals k = Refused
 
 abbrev pub call_value : (b : Build) → Span → ExprOf b → Place b → ExprOf b → Span → List (Form b) → Mode b
 call_value b a e AsStatement target equals k = begin_call_to (name_of b target) (name_of b e) equals a k

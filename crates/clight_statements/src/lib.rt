@@ -1,8 +1,5 @@
-//! The part of the parser's machine that reads expressions and statements.
+//! The part of the parser's machine that reads statements, and the marks behind the expressions in them.
 #![tactic(auto)]
 
-pub mod closing;
-pub mod expressions;
 pub mod marks;
-pub mod operators;
 pub mod statements;

@@ -8,10 +8,10 @@ ghost use Rattle.clight_parts.specs.Statements as s;
 ghost use Rattle.clight_parts.specs.Forms as o;
 ghost use Rattle.clight_parts.specs.Views.{expr_part, place_of, forms, mode_of};
 
-use crate::closing::finish;
-use crate::expressions::infix_at;
-use crate::operators::{binary_of, binds, settle};
 use cerco_base::NoMemory;
+use clight_binding::closing::finish;
+use clight_binding::expressions::infix_at;
+use clight_binding::operators::{binary_of, binds, settle};
 use clight_parts::declaration_nodes::{first_value, more_locals};
 use clight_parts::forms::{Form, Mode, Pending, Place, StatementMode};
 use clight_parts::nodes::{

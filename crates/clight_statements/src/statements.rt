@@ -9,9 +9,9 @@ ghost use Rattle.clight_parts.specs.Forms as o;
 ghost use Rattle.clight_parts.specs.Machine.{next};
 ghost use Rattle.clight_parts.specs.Views.{stmt_part, form_of, forms, for_start_note, for_middle_note, pending_of, mode_of, statement_mode};
 
-use crate::closing::{finish, flush};
-use crate::expressions::operand;
 use cerco_base::NoMemory;
+use clight_binding::closing::{else_arm, finish, flush};
+use clight_binding::expressions::operand;
 use clight_parts::declaration_nodes::function_item;
 use clight_parts::forms::{DeclarationMode, Form, Mode, Owner, Pending, Place, StatementMode};
 use clight_parts::nodes::{ForMiddle, ForStart, call, for_head, for_middle, for_start};
@@ -146,18 +146,6 @@ fn again(alloc: Global, stack: &mut Vec<Form>, mode: Mode, t: Terminal) -> Resul
         Mode::Statement(StatementMode::Start) => statement(alloc, stack, t),
         Mode::Statement(StatementMode::DoBody(keyword, x)) => Ok(do_while(keyword, x, t)),
         other => Ok(refuse_mode(other)),
-    }
-}
-
-fn else_arm(stack: &mut Vec<Form>, x: Part<Stmt>, at: Span) -> Result<Mode, NoMemory>
-    ensures { IfOk result (λ m. mode_of m (forms stack.new.items) ≡ s.else_arm (stmt_part x) (forms stack.old.items) at) }
-{
-    let Some(form) = pop(stack) else {
-        return Ok(refuse_statement(x));
-    };
-    match form {
-        Form::If(t) => start_in(stack, Form::Else(t, x, at)),
-        other => Ok(refuse_with(other, x)),
     }
 }
 

@@ -1,5 +1,5 @@
 use Rattle.clight_parts.specs.Views.{stmt_part, forms}
-use Rattle.clight_statements.proofs.StatementEnds.{no_else}
+use Rattle.clight_binding.proofs.StatementEnds.{no_else}
 use Rattle.clight_statements.proofs.statements.may_else.Goals as goal
 
 pub returns-in_ok-mode-in_default : goal.returns-in_ok-mode-in_default

@@ -3,7 +3,7 @@
 ghost use Rattle.std.specs.Prelude.{◌≡◌, List, IfOk};
 ghost use Rattle.clight_parts.specs.Builds.{limited};
 ghost use Rattle.clight_parts.specs.Expressions as s;
-ghost use Rattle.clight_statements.specs.Branches as r;
+ghost use Rattle.clight_binding.specs.Branches as r;
 ghost use Rattle.clight_parts.specs.Forms as o;
 ghost use Rattle.clight_parts.specs.Views.{expr_part, place_of, forms, mode_of};
 

@@ -2,8 +2,8 @@
 
 ghost use Rattle.std.specs.Prelude.{◌≡◌, ◌∷◌, IfOk};
 ghost use Rattle.clight_parts.specs.Builds.{limited};
-ghost use Rattle.clight_statements.specs.Branches as r;
-ghost use Rattle.clight_statements.specs.Closings.{Closes};
+ghost use Rattle.clight_binding.specs.Branches as r;
+ghost use Rattle.clight_binding.specs.Closings.{Closes};
 ghost use Rattle.clight_parts.specs.Statements as s;
 ghost use Rattle.clight_parts.specs.Forms as o;
 ghost use Rattle.clight_parts.specs.Views.{stmt_part, form_of, forms, mode_of};
@@ -11,10 +11,11 @@ ghost use Rattle.clight_parts.specs.Views.{stmt_part, form_of, forms, mode_of};
 use cerco_base::NoMemory;
 use clight_parts::forms::{Form, Mode, StatementMode};
 use clight_parts::part::Part;
-use clight_parts::stack::{pop, push, refuse_with, start_in};
+use clight_parts::stack::{pop, push, refuse_statement, refuse_with, start_in};
 use clight_parts::statement_nodes::{
     for_statement, if_else, if_statement, more_statements, no_statements, while_statement,
 };
+use clight_syntax::span::Span;
 use clight_syntax::tree::Stmt;
 use std::alloc::Global;
 
@@ -108,4 +109,17 @@ pub fn flush(alloc: Global, stack: &mut Vec<Form>, mut x: Part<Stmt>) -> Result<
         }
     }
     Ok(Mode::Refused)
+}
+
+/// `else` behind a statement: the `if` that this one ends, the innermost one, has a second arm.
+pub fn else_arm(stack: &mut Vec<Form>, x: Part<Stmt>, at: Span) -> Result<Mode, NoMemory>
+    ensures { IfOk result (λ m. mode_of m (forms stack.new.items) ≡ s.else_arm (stmt_part x) (forms stack.old.items) at) }
+{
+    let Some(form) = pop(stack) else {
+        return Ok(refuse_statement(x));
+    };
+    match form {
+        Form::If(t) => start_in(stack, Form::Else(t, x, at)),
+        other => Ok(refuse_with(other, x)),
+    }
 }

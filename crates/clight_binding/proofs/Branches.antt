@@ -7,7 +7,7 @@ use Rattle.clight_syntax.specs.declared.tree.Specifiers.{Specifiers}
 use Rattle.clight_parts.specs.Builds.{Build}
 use Rattle.clight_parts.specs.Forms.{Form, InTarget}
 use Rattle.clight_parts.specs.Expressions.{is_target, in_cast}
-use Rattle.clight_statements.specs.Branches.{cast_more}
+use Rattle.clight_binding.specs.Branches.{cast_more}
 
 pub target_is : {b : Build} (f : Form b) (k : List (Form b)) → is_target (f ∷ k) ≡ is_target (f ∷ [])
 target_is (InTarget place) k = refl

@@ -1,6 +1,6 @@
 use Rattle.std.proofs.Common.{◌∙◌}
-use Rattle.clight_statements.proofs.StatementEnds.{gathered-finish}
-use Rattle.clight_statements.proofs.closing.finish_once.Goals as goal
+use Rattle.clight_binding.proofs.StatementEnds.{gathered-finish}
+use Rattle.clight_binding.proofs.closing.finish_once.Goals as goal
 
 pub returns-in_ok-gather-in_default : goal.returns-in_ok-gather-in_default
 returns-in_ok-gather-in_default c =

@@ -1,8 +1,8 @@
 -- What becomes of a statement that is whole.
 use Rattle.std.specs.Prelude.{◌≡◌, List}
 use Rattle.clight_parts.specs.declared.forms.Form.{Form}
-use Rattle.clight_statements.specs.declared.closing.Closing.{Closing}
-use Rattle.clight_statements.specs.declared.closing.Closing.TheVariants.{Whole, Next}
+use Rattle.clight_binding.specs.declared.closing.Closing.{Closing}
+use Rattle.clight_binding.specs.declared.closing.Closing.TheVariants.{Whole, Next}
 use Rattle.clight_parts.specs.Builds as b
 use Rattle.clight_parts.specs.Builds.{limited}
 use Rattle.clight_syntax.specs.Trees.{Stmt}

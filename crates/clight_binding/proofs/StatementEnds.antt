@@ -11,7 +11,7 @@ use Rattle.clight_parts.specs.declared.forms.Mode.{Mode as CMode}
 use Rattle.clight_parts.specs.Builds.{limited, Part}
 use Rattle.clight_parts.specs.Forms as o
 use Rattle.clight_parts.specs.Statements.{finish, flush, again, may_else}
-use Rattle.clight_statements.specs.Branches.{gathered}
+use Rattle.clight_binding.specs.Branches.{gathered}
 use Rattle.clight_parts.specs.Views.{form_of, mode_of}
 
 pub gathered-finish : (x : Part Stmt) (g : Form) (k : List (o.Form limited)) → ((t : _) → g ≡ f.If t → ⊥) → ((t : _) (y : _) (a : _) → g ≡ f.Else t y a → ⊥) → ((t : _) → g ≡ f.While t → ⊥) → ((h : _) → g ≡ f.For h → ⊥)
