@@ -3,7 +3,7 @@ use Rattle.std.proofs.Common.{◌≡◌, ℕ, Bool, true, false, ◌&&◌, ◌||
 use Rattle.std.specs.Prelude.{IfOk, IfSome, if◌then◌else◌}
 use Rattle.cerco_base.specs.declared.reasons.TypeKind.{TypeKind}
 use Rattle.clight_syntax.specs.Types.{CType}
-use Rattle.clight_typing.specs.TypedExpressions.{Checked, TypeFault, fault, ◌>>=◌, or_fault}
+use Rattle.clight_types.specs.TypedExpressions.{Checked, TypeFault, fault, ◌>>=◌, or_fault}
 
 -- what one step gives, the next one takes
 pub then_holds : {A B : Type 0} (P : A → Type 0) (Q : B → Type 0) (x : Checked A) (next : A → Checked B) →

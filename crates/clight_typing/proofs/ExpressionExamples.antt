@@ -11,9 +11,9 @@ use Rattle.clight_syntax.specs.Trees.{Expr, Number}
 use Rattle.clight_syntax.specs.TypedTrees.{type_at, Cond}
 use Rattle.clight_syntax.specs.Types.{CType, Void, Integer, Pointer, Array, Struct, One, Two, Four, Member, StructType}
 use Rattle.clight_syntax.specs.Conversions.{literal_type, common, unsigned_char, int, unsigned_int, long, unsigned_long}
-use Rattle.clight_typing.specs.Operands.{value_type}
-use Rattle.clight_typing.specs.Scopes.{Scope, Named, Meaning, Meanings, Object, Code, declare, nothing, visible}
-use Rattle.clight_typing.specs.TypedExpressions.{Checked, typed_value, typed_condition, ◌>>=◌}
+use Rattle.clight_types.specs.Operands.{value_type}
+use Rattle.clight_types.specs.Scopes.{Scope, Named, Meaning, Meanings, Object, Code, declare, nothing, visible}
+use Rattle.clight_types.specs.TypedExpressions.{Checked, typed_value, typed_condition, ◌>>=◌}
 use Rattle.clight_typing.proofs.Samples.{at, name, literal, var, num, par, bin, pre, cast, idx, dot, arrow}
 
 abbrev signed_char : CType

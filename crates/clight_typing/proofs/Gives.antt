@@ -5,8 +5,8 @@ use Rattle.cerco_base.specs.declared.reasons.Fault.{Fault}
 use Rattle.cerco_base.specs.declared.reasons.Fault.TheVariants.{Refused, OutOfMemory}
 use Rattle.cerco_base.specs.declared.reasons.Reason.{Reason}
 use Rattle.cerco_base.specs.declared.reasons.Reason.TheVariants as r
-use Rattle.clight_typing.specs.TypedExpressions.{Checked, TypeFault, fault, ◌>>=◌}
-use Rattle.clight_typing.specs.Outcomes.{Gives, IsReason}
+use Rattle.clight_types.specs.TypedExpressions.{Checked, TypeFault, fault, ◌>>=◌}
+use Rattle.clight_types.specs.Outcomes.{Gives, IsReason}
 
 -- a step that gave this, and what follows
 pub gives_then : {A B C : Type 0} (view : A → B) (given : Result A Fault) (x : Checked C) (a : C) (next : C → Checked B) →

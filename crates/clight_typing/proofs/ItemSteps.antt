@@ -2,10 +2,10 @@
 use Rattle.std.proofs.Common.{◌≡◌, ◌∙◌, List, [], ◌∷◌, ◌++◌, Result, Ok, Err, length, refl, sym, ap, append_assoc}
 use Rattle.clight_syntax.specs.Trees as s
 use Rattle.clight_syntax.specs.TypedTrees.{Item, StructItem, GlobalItem, PrototypeItem, FunctionItem, Function}
-use Rattle.clight_typing.specs.Functions.{File}
+use Rattle.clight_types.specs.Functions.{File}
 use Rattle.clight_typing.specs.HeldFunction.{U, Step, step, typed_item, items_with, with_end}
 use Rattle.clight_typing.specs.Programs.{after_struct, after_global, after_prototype, after_function}
-use Rattle.clight_typing.specs.TypedExpressions.{Checked, TypeFault, ◌>>=◌}
+use Rattle.clight_types.specs.TypedExpressions.{Checked, TypeFault, ◌>>=◌}
 use Rattle.clight_typing.proofs.FunctionParts.{function_parts}
 use Rattle.clight_typing.specs.TypedPrograms.{Items, typed_items, typed_function, checked_struct, checked_global, checked_prototype}
 

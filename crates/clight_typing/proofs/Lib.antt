@@ -10,7 +10,6 @@ pub mod CompleteStatements
 pub mod TakenVariables
 pub mod CheckedDeclarations
 pub mod TypedProgramLaws
-pub mod Sizes
 pub mod Gives
 pub mod TypingLaws
 pub mod Walks
@@ -18,6 +17,5 @@ pub mod ItemSteps
 pub mod SourceRows
 pub mod LocalSteps
 pub mod FunctionParts
-pub mod Stars
 pub mod Verdicts
 pub mod Parameters

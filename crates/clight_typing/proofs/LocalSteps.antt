@@ -3,9 +3,9 @@ use Rattle.std.proofs.Common.{◌≡◌, ◌∙◌, ℕ, suc, ◌+◌, ◌<◌, 
 use Rattle.clight_syntax.specs.Trees as s
 use Rattle.clight_syntax.specs.Types.{StructType}
 use Rattle.clight_syntax.specs.TypedTrees.{Expr, Local, EarlierArgument}
-use Rattle.clight_typing.specs.Functions.{with_local}
-use Rattle.clight_typing.specs.Scopes.{Scope, Meanings, visible}
-use Rattle.clight_typing.specs.TypedExpressions.{Checked, TypeFault, ◌>>=◌, typed_value}
+use Rattle.clight_types.specs.Functions.{with_local}
+use Rattle.clight_types.specs.Scopes.{Scope, Meanings, visible}
+use Rattle.clight_types.specs.TypedExpressions.{Checked, TypeFault, ◌>>=◌, typed_value}
 use Rattle.clight_typing.specs.TypedStatements.{typed_earlier}
 use Rattle.clight_typing.specs.TypedPrograms.{typed_local, typed_locals, scope_at}
 use Rattle.clight_typing.proofs.Walks.{ahead, ahead_more}

@@ -2,10 +2,10 @@
 use Rattle.std.proofs.Common.{◌≡◌, ℕ, suc, List, [], ◌∷◌, map, refl, ap}
 use Rattle.clight_syntax.specs.Trees.{Declared}
 use Rattle.clight_syntax.specs.Types.{StructType}
-use Rattle.clight_typing.specs.Declarations.{declared_type}
-use Rattle.clight_typing.specs.Functions.{Own, object, parameter_own, with_parameters}
+use Rattle.clight_types.specs.Declarations.{declared_type}
+use Rattle.clight_types.specs.Functions.{Own, object, parameter_own, with_parameters}
 use Rattle.clight_typing.specs.HeldFile.{with_owns}
-use Rattle.clight_typing.specs.Scopes.{Meanings, declare}
+use Rattle.clight_types.specs.Scopes.{Meanings, declare}
 
 pub own_types : (structs : List StructType) (xs : List Declared) → map (λ (own : Own). own.type) (map (parameter_own structs) xs) ≡ map (declared_type structs) xs
 own_types structs [] = refl

@@ -20,7 +20,7 @@ use Rattle.clight_syntax.specs.Types.{CType, Void, Integer, Pointer, Array, Stru
 use Rattle.clight_syntax.specs.TypedTrees.{TypedProgram, Variable'}
 use Rattle.clight_syntax.specs.Conversions.{int, unsigned_char}
 use Rattle.clight_typing.specs.Sources.{program_source}
-use Rattle.clight_typing.specs.TypedExpressions.{Checked}
+use Rattle.clight_types.specs.TypedExpressions.{Checked}
 use Rattle.clight_typing.specs.TypedPrograms.{typed_program}
 use Rattle.clight_typing.proofs.Samples.{at, name, literal, var, num, par, bin, pre, idx, dot, arrow, set, call, call_into, declared, declaration, header, no_parameters, local, local_set, function}
 

@@ -17,12 +17,12 @@ use Rattle.clight_syntax.specs.Trees as s
 use Rattle.clight_syntax.specs.Types.{CType, Void, Integer, Pointer, Array, Struct, Size, One, Two, Four, Member, StructType}
 use Rattle.clight_syntax.specs.TypedTrees.{Expr, Variable, Number, Parenthesis, Binary, Prefix, Cast, Index, Select, type_at, Cond, Truth, InParentheses, Not, Both, Either}
 use Rattle.clight_syntax.specs.Conversions.{literal_type, promoted}
-use Rattle.clight_typing.specs.Operands.{is_integer, is_pointer, is_scalar, is_array, is_four_bytes, is_value, is_place, target_of, operand, steps_along}
-use Rattle.clight_typing.specs.Scopes.{Scope, Meaning, Object, Code, meaning_of, member_of, member_in}
-use Rattle.clight_typing.specs.Declarations.{named_type}
-use Rattle.clight_typing.specs.Expressions.{HasType, HasValue, HasPrefix, NeedsValue, HasBinary, IsConditional, is_logical, selected, are_pointer_and_steps}
+use Rattle.clight_types.specs.Operands.{is_integer, is_pointer, is_scalar, is_array, is_four_bytes, is_value, is_place, target_of, operand, steps_along}
+use Rattle.clight_types.specs.Scopes.{Scope, Meaning, Object, Code, meaning_of, member_of, member_in}
+use Rattle.clight_types.specs.Declarations.{named_type}
+use Rattle.clight_types.specs.Expressions.{HasType, HasValue, HasPrefix, NeedsValue, HasBinary, IsConditional, is_logical, selected, are_pointer_and_steps}
 use Rattle.clight_typing.specs.Sources.{expr_source, cond_source}
-use Rattle.clight_typing.specs.TypedExpressions.{Checked, fault, ◌>>=◌, or_fault, Judged, Typed, Logical, NoVariable, expr_place, bare_place, value_in, condition_in, place_in, judged_name, judged_number, in_parentheses, binary_type, binary_kind, of_values, judged_binary, promoted_type, dereferenced_type, address_type, address_of, judged_prefix, words_start, object_words, cast_type, judged_cast, element_type, judged_index, selected_type, found_member, select_from, judged_select, judged, typed_value, typed_condition, typed_place}
+use Rattle.clight_types.specs.TypedExpressions.{Checked, fault, ◌>>=◌, or_fault, Judged, Typed, Logical, NoVariable, expr_place, bare_place, value_in, condition_in, place_in, judged_name, judged_number, in_parentheses, binary_type, binary_kind, of_values, judged_binary, promoted_type, dereferenced_type, address_type, address_of, judged_prefix, words_start, object_words, cast_type, judged_cast, element_type, judged_index, selected_type, found_member, select_from, judged_select, judged, typed_value, typed_condition, typed_place}
 use Rattle.clight_typing.proofs.Checks.{then_holds, if_holds, or_fault_holds, some_holds}
 use Rattle.clight_typing.proofs.BinaryTypes.{has_row}
 

@@ -3,7 +3,7 @@ use Rattle.std.proofs.Common.{◌≡◌, ◌∙◌, Result, Ok, Err, refl, sym, 
 use Rattle.clight_syntax.specs.Trees.{Program}
 use Rattle.clight_typing.specs.Programs.{IsWellTyped, without_layout}
 use Rattle.clight_typing.specs.Sources.{program_source}
-use Rattle.clight_typing.specs.TypedExpressions.{Checked, TypeFault}
+use Rattle.clight_types.specs.TypedExpressions.{Checked, TypeFault}
 use Rattle.clight_typing.specs.TypedPrograms.{typed_program}
 use Rattle.clight_typing.specs.Laws.{Tree, IsTypingOf, TypingIsSound, TypingIsComplete, RefusalsAreRight, TypingIsUnique}
 use Rattle.clight_typing.proofs.TypedProgramLaws.{program_right, program_given}

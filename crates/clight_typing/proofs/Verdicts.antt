@@ -7,8 +7,8 @@ use Rattle.cerco_base.specs.declared.reasons.Reason.{Reason}
 use Rattle.cerco_base.specs.declared.reasons.Reason.TheVariants as r
 use Rattle.clight_syntax.specs.Trees.{Program}
 use Rattle.clight_typing.specs.Laws.{Tree, IsTypingOf, HasNoTyping, IfRefused}
-use Rattle.clight_typing.specs.Outcomes.{Gives, IsReason}
-use Rattle.clight_typing.specs.TypedExpressions.{Checked, TypeFault}
+use Rattle.clight_types.specs.Outcomes.{Gives, IsReason}
+use Rattle.clight_types.specs.TypedExpressions.{Checked, TypeFault}
 use Rattle.clight_typing.specs.TypedPrograms.{typed_program}
 use Rattle.clight_typing.proofs.TypingLaws.{sound, refusals}
 

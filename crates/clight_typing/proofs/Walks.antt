@@ -1,7 +1,7 @@
 -- Walks along lists, one step after the other.
 use Rattle.std.proofs.Common.{◌≡◌, ◌∙◌, ℕ, suc, ◌+◌, ◌<◌, List, [], ◌∷◌, ◌++◌, length, map, get_or, take, drop, Result, Ok, Err, refl, sym, ap, arith, append_assoc, add-one, drop-cons}
 use Rattle.std.proofs.lemmas.List.{append-nil, take-append-drop}
-use Rattle.clight_typing.specs.TypedExpressions.{Checked, ◌>>=◌}
+use Rattle.clight_types.specs.TypedExpressions.{Checked, ◌>>=◌}
 
 -- what a step gives, before what the rest gives
 abbrev pub ahead : {B : Type 0} → List B → Checked (List B) → Checked (List B)

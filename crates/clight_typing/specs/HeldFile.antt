@@ -4,22 +4,23 @@ use Rattle.clight_syntax.specs.Trees as s
 use Rattle.clight_syntax.specs.Types.{CType, StructType, type_of}
 use Rattle.clight_syntax.specs.TypedTrees.{Function, Item, FunctionItem, Variable'}
 use Rattle.clight_syntax.specs.declared.typed.Home.{Home}
-use Rattle.clight_syntax.specs.TypedViews.{struct_type_of, variable_of, item_of, function_of}
+use Rattle.clight_syntax.specs.TypedViews.{variable_of, item_of, function_of}
 use Rattle.clight_syntax.specs.declared.tree.Name.{Name}
 use Rattle.clight_syntax.specs.declared.typed.Item.{Item as HeldItem}
-use Rattle.clight_typing.specs.Declarations.{declaration_type}
-use Rattle.clight_typing.specs.Functions.{File, Own, object}
+use Rattle.clight_types.specs.Declarations.{declaration_type}
+use Rattle.clight_types.specs.Functions.{File, Own, object}
 use Rattle.clight_typing.specs.HeldOwn.{own_of}
 use Rattle.clight_typing.specs.HeldScopes.{file_names, scope_of}
-use Rattle.clight_typing.specs.Scopes.{Scope, Meanings, declare, visible}
+use Rattle.clight_types.specs.Scopes.{Scope, Meanings, declare, visible}
 use Rattle.clight_typing.specs.TypedPrograms.{behind_locals, locals_taken}
 use Rattle.clight_typing.specs.declared.files.File.{File as HeldFile}
 use Rattle.clight_typing.specs.declared.headers.Own.{Own as HeldOwn}
+use Rattle.clight_types.specs.HeldStructs.{structs_of}
 
 abbrev pub file_for : HeldFile → File
 file_for x = record {
-  definitions = x.definitions.items;
-  structs = map struct_type_of x.scope.structs.items;
+  definitions = x.definitions;
+  structs = structs_of x.scope.structs;
   names = file_names x.scope;
   variables = map variable_of x.variables.items;
   globals = x.globals;

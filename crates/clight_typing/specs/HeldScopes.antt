@@ -2,14 +2,14 @@
 use Rattle.std.specs.Prelude.{ℕ, Option, Some, None, map, nat_eq}
 use Rattle.std.specs.Option.{option_map}
 use Rattle.clight_syntax.specs.Types.{type_of}
-use Rattle.clight_syntax.specs.TypedViews.{struct_type_of}
 use Rattle.clight_names.specs.NameFaults.{or_else}
-use Rattle.clight_typing.specs.Scopes.{Signature, Meaning, Meanings, Named, Object, Code, Scope, declare, visible}
+use Rattle.clight_types.specs.Scopes.{Signature, Meaning, Meanings, Named, Object, Code, Scope, declare, visible}
 use Rattle.clight_typing.specs.declared.scope.Signature.{Signature as HeldSignature}
 use Rattle.clight_typing.specs.declared.scope.Meaning.{Meaning as HeldMeaning}
 use Rattle.clight_typing.specs.declared.scope.Meaning.TheVariants as m
 use Rattle.clight_typing.specs.declared.scope.Scope.{Scope as HeldScope}
 use Rattle.indexmap.specs.IndexMap.{get}
+use Rattle.clight_types.specs.HeldStructs.{structs_of}
 
 abbrev pub signature_for : HeldSignature → Signature
 signature_for x = record { result = type_of x.result; parameters = map type_of x.parameters.items }
@@ -20,7 +20,7 @@ meaning_for (m.Code function signature) = Code function (signature_for signature
 
 abbrev pub scope_of : HeldScope → Scope
 scope_of x = record {
-  structs = map struct_type_of x.structs.items;
+  structs = structs_of x.structs;
   meaning = λ name. or_else (option_map meaning_for (get nat_eq x.locals name)) (option_map meaning_for (get nat_eq x.file name));
 }
 

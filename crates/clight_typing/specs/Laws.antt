@@ -7,7 +7,7 @@ use Rattle.clight_syntax.specs.Trees.{Program}
 use Rattle.clight_syntax.specs.TypedTrees.{TypedProgram}
 use Rattle.clight_typing.specs.Programs.{IsWellTyped, without_layout}
 use Rattle.clight_typing.specs.Sources.{program_source}
-use Rattle.clight_typing.specs.TypedExpressions.{TypeFault}
+use Rattle.clight_types.specs.TypedExpressions.{TypeFault}
 use Rattle.clight_typing.specs.TypedPrograms.{typed_program}
 
 abbrev pub Tree : Type 0

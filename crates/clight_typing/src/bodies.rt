@@ -2,24 +2,21 @@
 //! (ISO/IEC 9899:1999, 6.8.6).
 ghost use Rattle.std.specs.Prelude.{◌≡◌};
 ghost use Rattle.std.specs.Option.{option_map};
-ghost use Rattle.clight_syntax.specs.Types.{type_of};
-ghost use Rattle.clight_syntax.specs.Views.{expr_of as source_of, for_head_of as for_source_of};
-ghost use Rattle.clight_syntax.specs.TypedViews.{expr_of, stmt_of, for_head_of};
+ghost use Rattle.clight_syntax.specs.Views.{expr_of as source_of};
+ghost use Rattle.clight_syntax.specs.TypedViews.{expr_of, stmt_of};
 ghost use Rattle.clight_typing.specs.HeldBody.{body_for};
-ghost use Rattle.clight_typing.specs.HeldScopes.{scope_of, signature_for};
-ghost use Rattle.clight_typing.specs.Outcomes.{Gives};
-ghost use Rattle.clight_typing.specs.Statements.{reads_into as reads_into_lem, is_own as is_own_lem, takes_result as takes_result_lem};
-ghost use Rattle.clight_typing.specs.TypedStatements.{typed_reading as typed_reading_lem, read_port as read_port_lem, typed_return as typed_return_lem, jump as jump_lem, typed_for as typed_for_lem};
+ghost use Rattle.clight_types.specs.Outcomes.{Gives};
+ghost use Rattle.clight_types.specs.Statements.{reads_into as reads_into_lem, is_own as is_own_lem};
+ghost use Rattle.clight_typing.specs.TypedStatements.{typed_reading as typed_reading_lem, read_port as read_port_lem, typed_return as typed_return_lem, jump as jump_lem};
 
-use crate::integers::integer_of;
-use crate::judged::refused;
-use crate::operands::carried;
-use crate::scope::{Scope, Signature};
-use crate::statements::{Body, is_assignable_to, is_scalar, variable_of};
-use crate::types::same_type;
+use crate::statements::Body;
 use cerco_base::{Fault, TypeKind};
-use clight_syntax::typed::{Expr, ForHead, Stmt};
+use clight_syntax::typed::{Expr, Stmt};
 use clight_syntax::{Span, Ty, tree};
+use clight_types::assignable::{is_assignable_to, variable_of};
+use clight_types::integers::integer_of;
+use clight_types::judged::refused;
+use clight_types::operands::carried;
 
 impl Body<'_> {
     /// Whether a variable is a parameter or local of the function, and its address isn't taken.

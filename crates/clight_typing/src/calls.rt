@@ -1,22 +1,20 @@
 //! The typed trees of calls, or the first node of one that has no type (ISO/IEC 9899:1999, 6.5.2.2).
 ghost use Rattle.std.specs.Prelude.{◌≡◌, map};
 ghost use Rattle.std.specs.Option.{option_map};
-ghost use Rattle.clight_syntax.specs.Types.{type_of};
 ghost use Rattle.clight_syntax.specs.Views.{earlier_argument_of as earlier_source_of, arguments_of as arguments_source_of, call_of as call_source_of};
-ghost use Rattle.clight_syntax.specs.TypedViews.{expr_of, earlier_argument_of, arguments_of, call_of};
+ghost use Rattle.clight_syntax.specs.TypedViews.{earlier_argument_of, arguments_of, call_of};
 ghost use Rattle.clight_typing.specs.HeldBody.{body_for};
-ghost use Rattle.clight_typing.specs.HeldScopes.{scope_of, meaning_for, signature_for};
-ghost use Rattle.clight_typing.specs.Outcomes.{Gives};
-ghost use Rattle.clight_typing.specs.Statements.{values_of, values_onto, are_assignable as are_assignable_lem};
+ghost use Rattle.clight_typing.specs.HeldScopes.{scope_of, signature_for};
+ghost use Rattle.clight_types.specs.Outcomes.{Gives};
 ghost use Rattle.clight_typing.specs.TypedStatements.{optional, typed_earlier as typed_earlier_lem, typed_arguments as typed_arguments_lem, typed_target as typed_target_lem, call_place as call_place_lem, call_of as call_of_lem, typed_call as typed_call_lem};
 
-use crate::judged::refused;
 use crate::scope::{Meaning, Scope, Signature};
-use crate::statements::{Body, is_assignable_to};
+use crate::statements::Body;
 use cerco_base::{Fault, TypeKind};
-use clight_syntax::tree::CallTarget;
-use clight_syntax::typed::{Arguments, Call, EarlierArgument, Expr, ResultTarget};
-use clight_syntax::{Ty, tree};
+use clight_syntax::tree::{self, CallTarget};
+use clight_syntax::typed::{Arguments, Call, EarlierArgument, ResultTarget};
+use clight_types::assignable::are_assignable;
+use clight_types::judged::refused;
 
 impl Scope {
     /// The arguments before the last one. Refused at the first node without a type.
@@ -46,33 +44,6 @@ impl Scope {
                 Ok(Arguments::Listed(others, e))
             }
         }
-    }
-}
-
-/// Whether the values before the last one and the last one may be assigned to parameters of these types, of which there are as many.
-fn are_listed_assignable(earlier: &[EarlierArgument], last: &Expr, types: &[Ty]) -> bool
-    ensures { result ≡ are_assignable_lem (values_onto (map earlier_argument_of earlier.now) (expr_of last.now)) (map type_of types.now) }
-{
-    let mut parameter = 0;
-    for x in earlier {
-        match types.get(parameter) {
-            Some(ty) if is_assignable_to(&x.value, ty) => parameter += 1,
-            _ => return false,
-        }
-    }
-    match types.get(parameter) {
-        Some(ty) => is_assignable_to(last, ty) && types.get(parameter + 1).is_none(),
-        None => false,
-    }
-}
-
-/// Whether the arguments may be assigned to parameters of these types, of which there are as many.
-fn are_assignable(x: &Arguments, types: &[Ty]) -> bool
-    ensures { result ≡ are_assignable_lem (values_of (arguments_of x.now)) (map type_of types.now) }
-{
-    match x {
-        Arguments::Nothing => types.is_empty(),
-        Arguments::Listed(earlier, last) => are_listed_assignable(earlier, last, types),
     }
 }
 

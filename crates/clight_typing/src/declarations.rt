@@ -1,92 +1,24 @@
 //! The types that declarations give, and whether they may stand (ISO/IEC 9899:1999, 6.7.2 to 6.7.5).
-ghost use Rattle.std.specs.Prelude.{◌≡◌, ◌≤◌, ◌+◌, IfOk, map, min};
-ghost use Rattle.clight_syntax.specs.Depth.{declared_start as declared_start_lem};
-ghost use Rattle.clight_syntax.specs.Types.{type_of, size_of};
+ghost use Rattle.std.specs.Prelude.{◌≡◌, IfOk, map, min};
+ghost use Rattle.clight_syntax.specs.Types.{type_of};
 ghost use Rattle.clight_syntax.specs.TypedViews.{struct_type_of, member_of as member_type_of};
-ghost use Rattle.clight_syntax.specs.Views.{declared_of, declaration_of, member_of, struct_of};
-ghost use Rattle.clight_typing.specs.Declarations.{pointers_to as pointers_to_lem, arrays_of as arrays_of_lem, declared_type as declared_type_lem, declaration_type as declaration_type_lem, is_size, size_of_members, members_from as members_from_lem, struct_type as struct_type_lem};
-ghost use Rattle.clight_typing.specs.Held.{size_cap};
+ghost use Rattle.clight_syntax.specs.Views.{declaration_of, member_of, struct_of};
+ghost use Rattle.clight_types.specs.Declarations.{declaration_type as declaration_type_lem, size_of_members, members_from as members_from_lem, struct_type as struct_type_lem};
+ghost use Rattle.clight_types.specs.Held.{size_cap};
 ghost use Rattle.clight_typing.specs.HeldScopes.{scope_of};
-ghost use Rattle.clight_typing.specs.Outcomes.{Gives};
+ghost use Rattle.clight_types.specs.Outcomes.{Gives};
 ghost use Rattle.clight_typing.specs.TypedPrograms.{checked_declaration as checked_declaration_lem, checked_members as checked_members_lem, checked_struct as checked_struct_lem};
 
-use crate::judged::refused;
-use crate::members::named_type;
 use crate::scope::Scope;
-use crate::types::capped_size;
 use cerco_base::{Fault, NoMemory, TypeKind};
-use clight_syntax::tree::{Declaration, Declared, Length, Member, StructDefinition};
+use clight_syntax::Ty;
+use clight_syntax::tree::{Declaration, Member, StructDefinition};
 use clight_syntax::typed::{MemberType, StructType};
-use clight_syntax::{Span, Ty};
-use std::alloc::Global;
-
-/// A pointer for each star (ISO/IEC 9899:1999, 6.7.5.1).
-fn pointers_to(alloc: Global, stars: &[Span], ty: Ty) -> Result<Ty, NoMemory>
-    ensures { IfOk result (λ x. type_of x ≡ pointers_to_lem stars.now (type_of ty)) }
-{
-    let mut pointer = ty;
-    for _star in stars {
-        pointer = Ty::Pointer(Box::new(alloc, pointer)?);
-    }
-    Ok(pointer)
-}
-
-/// An array for each length, of which the first is that of the whole array (ISO/IEC 9899:1999, 6.7.5.2).
-fn arrays_of(alloc: Global, lengths: &[Length], ty: Ty) -> Result<Ty, NoMemory>
-    ensures { IfOk result (λ x. type_of x ≡ arrays_of_lem lengths.now (type_of ty)) }
-{
-    match lengths {
-        [] => Ok(ty),
-        [first, rest @ ..] => {
-            let element = arrays_of(alloc, rest, ty)?;
-            Ok(Ty::Array(Box::new(alloc, element)?, first.number.value))
-        }
-    }
-}
-
-/// The type of a parameter or result, or of an element of a declared array.
-pub fn declared_type(alloc: Global, structs: &[StructType], x: &Declared) -> Result<Ty, NoMemory>
-    ensures { IfOk result (λ t. type_of t ≡ declared_type_lem (map struct_type_of structs.now) (declared_of x.now)) }
-{
-    let ty = named_type(structs, x.specifiers)?;
-    pointers_to(alloc, &x.stars, ty)
-}
-
-/// The type of a variable or member.
-pub fn declaration_type(
-    alloc: Global,
-    structs: &[StructType],
-    x: &Declaration,
-) -> Result<Ty, NoMemory>
-    ensures { IfOk result (λ t. type_of t ≡ declaration_type_lem (map struct_type_of structs.now) (declaration_of x.now)) }
-{
-    let ty = declared_type(alloc, structs, &x.declared)?;
-    arrays_of(alloc, &x.lengths, ty)
-}
-
-/// The place of a declared thing: its first star, or its name.
-pub fn declared_start(x: &Declared) -> u32
-    ensures { result ≡ declared_start_lem (declared_of x.now) }
-{
-    match x.stars.first() {
-        Some(star) => star.from,
-        None => x.name.span.from,
-    }
-}
-
-/// Whether a number of bytes, which is counted up to 65,536, is one that a type may have: 1 to 65,534.
-fn is_capped_size(bytes: u32) -> bool
-    ensures { result ≡ is_size bytes }
-{
-    1 <= bytes && bytes <= 65_534
-}
-
-/// Whether a type has 1 to 65,534 bytes.
-fn has_size(structs: &[StructType], ty: &Ty) -> bool
-    ensures { result ≡ is_size (size_of (map struct_type_of structs.now) (type_of ty.now)) }
-{
-    is_capped_size(capped_size(structs, ty))
-}
+use clight_types::declared::{
+    capped_sum, declaration_type, declared_start, has_size, is_capped_size, offset_behind,
+};
+use clight_types::judged::refused;
+use clight_types::types::capped_size;
 
 impl Scope {
     /// The type of a variable or member. Refused with `Void`, `Long` or `Size` where it has none.
@@ -159,28 +91,5 @@ impl Scope {
             members,
             size,
         })
-    }
-}
-
-/// A sum, or 65,536 where it is more.
-pub fn capped_sum(left: u32, right: u32) -> u32
-    requires left_capped { left ≤ size_cap }
-    requires right_capped { right ≤ size_cap }
-    ensures { result ≡ min (left + right) size_cap }
-{
-    (left + right).min(65_536)
-}
-
-/// The offset behind a member of this type at an offset, if it is below 2 to the 32nd.
-fn offset_behind(offset: u32, structs: &[StructType], ty: &Ty) -> Result<u32, NoMemory>
-    ensures { IfOk result (λ n. n ≡ offset + size_of (map struct_type_of structs.now) (type_of ty.now)) }
-{
-    let size = capped_size(structs, ty);
-    if 65_536 <= size {
-        return Err(NoMemory);
-    }
-    match offset.checked_add(size) {
-        Some(next) => Ok(next),
-        None => Err(NoMemory),
     }
 }

@@ -5,24 +5,26 @@ ghost use Rattle.std.specs.Option.{option_map};
 ghost use Rattle.clight_syntax.specs.Types.{type_of};
 ghost use Rattle.clight_syntax.specs.Views.{expr_of as source_of};
 ghost use Rattle.clight_syntax.specs.TypedViews.{expr_of, cond_of};
-ghost use Rattle.clight_typing.specs.Declarations.{named_type as named_type_lem};
-ghost use Rattle.clight_typing.specs.HeldJudged.{judged_of};
+ghost use Rattle.clight_types.specs.Declarations.{named_type as named_type_lem};
+ghost use Rattle.clight_types.specs.HeldJudged.{judged_of};
 ghost use Rattle.clight_typing.specs.HeldScopes.{scope_of};
-ghost use Rattle.clight_typing.specs.Outcomes.{Gives};
-ghost use Rattle.clight_typing.specs.Scopes.{meaning_of};
-ghost use Rattle.clight_typing.specs.TypedExpressions.{judged as judged_lem, judged_name, object_words as object_words_lem, typed_value as typed_value_lem, typed_condition as typed_condition_lem, typed_place as typed_place_lem};
+ghost use Rattle.clight_types.specs.Outcomes.{Gives};
+ghost use Rattle.clight_types.specs.Scopes.{meaning_of};
+ghost use Rattle.clight_types.specs.TypedExpressions.{judged as judged_lem, judged_name, object_words as object_words_lem, typed_value as typed_value_lem, typed_condition as typed_condition_lem, typed_place as typed_place_lem};
 
-use crate::judged::{
-    Judged, condition_in, in_parentheses, number, place_in, refused, value_in, words_start,
-};
-use crate::members::{named_type, select};
-use crate::nodes::{address, binary, cast, dereferenced, element, is_logical, logical, promoted};
 use crate::scope::{Meaning, Scope};
-use crate::types::copied;
 use cerco_base::{Fault, TypeKind};
 use clight_syntax::tree::{self, Name, PrefixOperator, Specifiers};
 use clight_syntax::typed::Expr;
 use clight_syntax::{Cond, Ty};
+use clight_types::judged::{
+    Judged, condition_in, in_parentheses, number, place_in, refused, value_in, words_start,
+};
+use clight_types::members::{named_type, select};
+use clight_types::nodes::{
+    address, binary, cast, dereferenced, element, is_logical, logical, promoted,
+};
+use clight_types::types::copied;
 
 impl Scope {
     /// A name by itself.
@@ -105,7 +107,7 @@ impl Scope {
         source: &tree::Expr,
         inner: Judged,
     ) -> Result<Judged, Fault>
-        ensures { Gives judged_of result (Rattle.clight_typing.specs.TypedExpressions.judged_prefix operator at (source_of source.now) (Ok (judged_of inner))) }
+        ensures { Gives judged_of result (Rattle.clight_types.specs.TypedExpressions.judged_prefix operator at (source_of source.now) (Ok (judged_of inner))) }
     {
         match operator {
             PrefixOperator::Negate => {

@@ -3,10 +3,10 @@ ghost use Rattle.std.specs.Prelude.{◌≡◌, ◌++◌, IfOk, OnOk, length, map
 ghost use Rattle.clight_syntax.specs.Types.{type_of};
 ghost use Rattle.clight_syntax.specs.TypedViews.{variable_of};
 ghost use Rattle.clight_syntax.specs.Views.{struct_of, global_of, header_of};
-ghost use Rattle.clight_typing.specs.Functions.{function_number as function_number_lem, variables_from, has_block as has_block_lem, home_of, counted as counted_lem};
+ghost use Rattle.clight_types.specs.Functions.{function_number as function_number_lem, variables_from, has_block as has_block_lem, home_of, counted as counted_lem};
 ghost use Rattle.clight_typing.specs.HeldFile.{a_variable, file_for};
 ghost use Rattle.clight_typing.specs.HeldOwn.{own_of};
-ghost use Rattle.clight_typing.specs.Outcomes.{Gives};
+ghost use Rattle.clight_types.specs.Outcomes.{Gives};
 ghost use Rattle.clight_typing.specs.Programs.{after_struct, after_global, after_prototype};
 ghost use Rattle.clight_typing.specs.TypedPrograms.{checked_struct, checked_global, checked_prototype as checked_prototype_lem};
 ghost use Rattle.indexmap.specs.IndexSet.{contains};
@@ -14,12 +14,13 @@ ghost use Rattle.indexmap.specs.IndexSet.{contains};
 use crate::headers::Own;
 use crate::locals::next_number;
 use crate::scope::{Meaning, Scope};
-use crate::statements::is_scalar;
-use crate::types::copied;
 use cerco_base::{Fault, NoMemory};
 use clight_syntax::Ty;
 use clight_syntax::tree::{self, Header, StructDefinition};
 use clight_syntax::typed::{Home, Variable};
+use clight_types::assignable::is_scalar;
+use clight_types::places::Places;
+use clight_types::types::copied;
 use indexmap::IndexSet;
 
 /// What is declared before a place of a file.
@@ -27,7 +28,7 @@ use indexmap::IndexSet;
 pub struct File {
     pub scope: Scope,
     /// The names of all functions that the program defines, in order.
-    pub definitions: Vec<u32>,
+    pub definitions: Places,
     /// The variables, in order, with no addresses yet.
     pub variables: Vec<Variable>,
     /// How many of them are globals.
@@ -46,25 +47,11 @@ pub fn number_of_all(count: usize) -> Result<u32, NoMemory>
     }
 }
 
-/// The place of a name in a list, or how many there are.
-fn place_among(names: &[u32], name: u32) -> usize
-    ensures { result ≡ function_number_lem names.now name }
-{
-    let mut number = 0;
-    for found in names {
-        if *found == name {
-            return number;
-        }
-        number += 1;
-    }
-    number
-}
-
 /// The number of the function with this name, or how many there are.
-pub fn function_number(definitions: &[u32], name: u32) -> Result<u32, NoMemory>
+pub fn function_number(definitions: &Places, name: u32) -> Result<u32, NoMemory>
     ensures { IfOk result (λ n. n ≡ function_number_lem definitions.now name) }
 {
-    number_of_all(place_among(definitions, name))
+    number_of_all(definitions.place(name))
 }
 
 impl File {
@@ -74,7 +61,7 @@ impl File {
         ensures after { OnOk result (file_for self.new ≡ after_struct (file_for self.old) (struct_of x.now)) }
     {
         let found = self.scope.typed_struct(x)?;
-        self.scope.structs.push(found)?;
+        self.scope.add_struct(found)?;
         Ok(())
     }
 

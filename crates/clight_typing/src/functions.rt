@@ -4,24 +4,22 @@ ghost use Rattle.std.specs.Option.{option_map};
 ghost use Rattle.clight_syntax.specs.Types.{type_of};
 ghost use Rattle.clight_syntax.specs.TypedViews.{function_of, stmts_of};
 ghost use Rattle.clight_syntax.specs.Views.{declared_of, header_of, parameters_of as parameters_source_of, local_of as local_source_of, stmts_of as sources_of, function_of as function_source_of};
-ghost use Rattle.clight_typing.specs.Declarations.{declared_type as declared_type_lem, parameters_of, signature_of};
-ghost use Rattle.clight_typing.specs.Functions.{with_parameters, parameter_own, has_few_parameters, agrees as agrees_lem};
+ghost use Rattle.clight_types.specs.Declarations.{declared_type as declared_type_lem, parameters_of, signature_of};
+ghost use Rattle.clight_types.specs.Functions.{with_parameters, parameter_own, has_few_parameters, agrees as agrees_lem};
 ghost use Rattle.clight_typing.specs.HeldFile.{file_for, source_own};
 ghost use Rattle.clight_typing.specs.HeldFunction.{body_with, function_scope, taken_within, typed_parts as typed_parts_lem, parts_of, Function', with_end, typed_and_end};
 ghost use Rattle.clight_typing.specs.HeldOwn.{own_of};
 ghost use Rattle.clight_typing.specs.HeldScopes.{scope_of, file_names};
-ghost use Rattle.clight_typing.specs.Outcomes.{Gives};
+ghost use Rattle.clight_types.specs.Outcomes.{Gives};
 ghost use Rattle.clight_typing.specs.Programs.{after_prototype};
-ghost use Rattle.clight_typing.specs.Scopes.{visible};
-ghost use Rattle.clight_typing.specs.Statements.{is_among};
+ghost use Rattle.clight_types.specs.Scopes.{visible};
+ghost use Rattle.clight_types.specs.Statements.{is_among};
 ghost use Rattle.clight_typing.specs.TypedPrograms.{asked as asked_lem, checked_types as checked_types_lem, typed_function as typed_function_lem};
 ghost use Rattle.clight_typing.specs.TypedStatements.{typed_stmts as typed_stmts_lem};
 ghost use Rattle.indexmap.specs.IndexSet.{contains};
 
-use crate::declarations::declared_type;
 use crate::files::{File, add_variables, number_of_all};
 use crate::headers::{Own, agrees};
-use crate::judged::refused;
 use crate::locals::{Variables, next_number};
 use crate::scope::Scope;
 use crate::statements::Body;
@@ -30,6 +28,8 @@ use cerco_base::{Fault, NoMemory, TypeKind};
 use clight_syntax::Ty;
 use clight_syntax::tree::{self, Header, Parameters};
 use clight_syntax::typed::{Function, Local, Stmt};
+use clight_types::declared::declared_type;
+use clight_types::judged::refused;
 use indexmap::IndexSet;
 
 /// The typed parts of a function.

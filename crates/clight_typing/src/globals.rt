@@ -3,18 +3,18 @@ ghost use Rattle.std.specs.Prelude.{◌≡◌, IfOk, map};
 ghost use Rattle.clight_syntax.specs.Trees.{Single, Listed};
 ghost use Rattle.clight_syntax.specs.Types.{type_of};
 ghost use Rattle.clight_syntax.specs.Views.{declaration_of, initialiser_of, global_of};
-ghost use Rattle.clight_typing.specs.Declarations.{declaration_type as declaration_type_lem};
-ghost use Rattle.clight_typing.specs.Functions.{is_number as is_number_lem, takes_list as takes_list_lem};
+ghost use Rattle.clight_types.specs.Declarations.{declaration_type as declaration_type_lem};
+ghost use Rattle.clight_types.specs.Functions.{is_number as is_number_lem, takes_list as takes_list_lem};
 ghost use Rattle.clight_typing.specs.HeldScopes.{scope_of};
-ghost use Rattle.clight_typing.specs.Outcomes.{Gives};
+ghost use Rattle.clight_types.specs.Outcomes.{Gives};
 ghost use Rattle.clight_typing.specs.TypedPrograms.{checked_number as checked_number_lem, checked_numbers as checked_numbers_lem, checked_initialiser as checked_initialiser_lem, checked_global as checked_global_lem};
 
-use crate::integers::{Width, integer_of, literal_integer};
-use crate::judged::refused;
 use crate::scope::Scope;
 use cerco_base::{Fault, TypeKind};
 use clight_syntax::tree::{EarlierNumber, Global, Initialiser, SignedNumber};
 use clight_syntax::{Span, Ty};
+use clight_types::integers::{Width, integer_of, literal_integer};
+use clight_types::judged::refused;
 
 /// Whether a number has a type of one or two bytes.
 fn is_number(x: SignedNumber) -> bool

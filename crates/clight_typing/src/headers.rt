@@ -1,27 +1,25 @@
 //! The types of functions, and whether they may be declared so (ISO/IEC 9899:1999, 6.7.5.3 and 6.9.1).
-ghost use Rattle.std.specs.Prelude.{◌≡◌, ◌≤◌, ◌+◌, IfOk, map, min};
+ghost use Rattle.std.specs.Prelude.{◌≡◌, IfOk, map};
 ghost use Rattle.std.specs.Option.{option_map};
 ghost use Rattle.clight_syntax.specs.Types.{type_of};
-ghost use Rattle.clight_syntax.specs.TypedViews.{struct_type_of};
 ghost use Rattle.clight_syntax.specs.Views.{declared_of, parameters_of as parameters_source_of, header_of};
-ghost use Rattle.clight_typing.specs.Declarations.{parameters_of, signature_of as signature_of_lem, declared_type as declared_type_lem, bytes_of};
-ghost use Rattle.clight_typing.specs.Functions.{parameter_own, has_few_parameters as has_few_parameters_lem, types_eq, signature_eq, agrees as agrees_lem, is_void as is_void_lem};
-ghost use Rattle.clight_typing.specs.Held.{size_cap};
+ghost use Rattle.clight_types.specs.Declarations.{parameters_of, signature_of as signature_of_lem, declared_type as declared_type_lem};
+ghost use Rattle.clight_types.specs.Functions.{parameter_own, has_few_parameters as has_few_parameters_lem, signature_eq, agrees as agrees_lem, is_void as is_void_lem};
 ghost use Rattle.clight_typing.specs.HeldOwn.{listed, own_of};
 ghost use Rattle.clight_typing.specs.HeldScopes.{scope_of, signature_for, meaning_for};
-ghost use Rattle.clight_typing.specs.Outcomes.{Gives};
+ghost use Rattle.clight_types.specs.Outcomes.{Gives};
 ghost use Rattle.clight_typing.specs.TypedPrograms.{result_words as result_words_lem, checked_result as checked_result_lem, checked_parameter as checked_parameter_lem, checked_parameters as checked_parameters_lem, checked_types as checked_types_lem, few_parameters as few_parameters_lem, checked_prototype as checked_prototype_lem};
 
-use crate::declarations::{capped_sum, declared_start, declared_type};
-use crate::judged::{refused, words_start};
-use crate::members::named_type;
 use crate::scope::{Meaning, Scope, Signature};
-use crate::statements::is_scalar;
-use crate::types::{capped_size, same_type};
 use cerco_base::{Fault, NoMemory, TypeKind};
 use clight_syntax::Ty;
 use clight_syntax::tree::{Declared, EarlierParameter, Header, Name, Parameters};
-use clight_syntax::typed::StructType;
+use clight_types::assignable::is_scalar;
+use clight_types::declared::{declared_start, declared_type};
+use clight_types::judged::{refused, words_start};
+use clight_types::members::named_type;
+use clight_types::parameters::{are_same_types, parameter_bytes};
+use clight_types::types::same_type;
 use std::alloc::Global;
 
 /// A parameter or local: its name and its type.
@@ -44,7 +42,7 @@ pub fn is_void(ty: &Ty) -> bool
 impl Scope {
     /// The words of a result. Refused with `Void` or `Long` where they may not stand.
     fn result_words(&self, x: &Declared) -> Result<(), Fault>
-        ensures { Gives (λ y. y) result (result_words_lem (Rattle.clight_typing.specs.Declarations.named_type (scope_of self.now).structs (declared_of x.now).specifiers) (declared_of x.now).stars (declared_of x.now).specifiers) }
+        ensures { Gives (λ y. y) result (result_words_lem (Rattle.clight_types.specs.Declarations.named_type (scope_of self.now).structs (declared_of x.now).specifiers) (declared_of x.now).stars (declared_of x.now).specifiers) }
     {
         if !x.stars.is_empty() {
             let _words = self.object_words(x.specifiers)?;
@@ -189,31 +187,6 @@ fn types_of(alloc: Global, owns: Vec<Own>) -> Result<Vec<Ty>, NoMemory>
         types.push(own.ty)?;
     }
     Ok(types)
-}
-
-/// How many bytes values of these types have together, or 65,536 where it is more.
-fn parameter_bytes(structs: &[StructType], types: &[Ty]) -> u32
-    ensures { result ≡ min (bytes_of (map struct_type_of structs.now) (map type_of types.now)) size_cap }
-{
-    let mut bytes = 0;
-    for ty in types {
-        bytes = capped_sum(bytes, capped_size(structs, ty));
-    }
-    bytes
-}
-
-/// Whether types are the same, one after the other.
-fn are_same_types(left: &[Ty], right: &[Ty]) -> bool
-    ensures { result ≡ types_eq (map type_of left.now) (map type_of right.now) }
-{
-    let mut next = 0;
-    for one in left {
-        match right.get(next) {
-            Some(other) if same_type(one, other) => next += 1,
-            _ => return false,
-        }
-    }
-    right.get(next).is_none()
 }
 
 /// Whether two functions have the same types.

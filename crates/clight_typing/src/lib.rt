@@ -1,4 +1,4 @@
-//! The checker of the C profile: names and types.
+//! The checker of the C profile: what names mean, and whether the types of a program are right.
 #![tactic(auto)]
 
 pub mod blocks;
@@ -10,17 +10,10 @@ pub mod files;
 pub mod functions;
 pub mod globals;
 pub mod headers;
-pub mod integers;
-pub mod judged;
 pub mod laws;
 pub mod locals;
 pub mod loops;
-pub mod members;
-pub mod nodes;
-pub mod operands;
 pub mod programs;
-pub mod rows;
 pub mod scope;
 pub mod statements;
 pub mod taken;
-pub mod types;

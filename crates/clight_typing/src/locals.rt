@@ -3,24 +3,24 @@ ghost use Rattle.std.specs.Prelude.{◌≡◌, ◌++◌, ◌+◌, ◌∷◌, [],
 ghost use Rattle.clight_syntax.specs.Types.{type_of};
 ghost use Rattle.clight_syntax.specs.TypedViews.{local_of, local_initialiser_of};
 ghost use Rattle.clight_syntax.specs.Views.{local_of as local_source_of, local_initialiser_of as initialiser_source_of, parameters_of as parameters_source_of};
-ghost use Rattle.clight_typing.specs.Declarations.{parameters_of};
-ghost use Rattle.clight_typing.specs.Functions.{object, with_parameters, parameter_own};
+ghost use Rattle.clight_types.specs.Declarations.{parameters_of};
+ghost use Rattle.clight_types.specs.Functions.{object, with_parameters, parameter_own};
 ghost use Rattle.clight_typing.specs.HeldFile.{an_own, source_own, with_owns};
 ghost use Rattle.clight_typing.specs.HeldOwn.{own_of};
 ghost use Rattle.clight_typing.specs.HeldScopes.{scope_of, declared_in, file_names};
-ghost use Rattle.clight_typing.specs.Outcomes.{Gives};
-ghost use Rattle.clight_typing.specs.Scopes.{visible};
+ghost use Rattle.clight_types.specs.Outcomes.{Gives};
+ghost use Rattle.clight_types.specs.Scopes.{visible};
 ghost use Rattle.clight_typing.specs.TypedPrograms.{typed_first_value as typed_first_value_lem, typed_local as typed_local_lem, typed_locals as typed_locals_lem, scope_at, behind_locals, first_value_taken, locals_taken};
 
 use crate::headers::Own;
-use crate::judged::refused;
 use crate::scope::{Meaning, Scope};
-use crate::statements::{is_assignable_to, is_scalar};
-use crate::types::copied;
 use cerco_base::{Fault, NoMemory, TypeKind};
 use clight_syntax::Ty;
 use clight_syntax::tree::{self, Name, Parameters};
 use clight_syntax::typed::{Local, LocalInitialiser};
+use clight_types::assignable::{is_assignable_to, is_scalar};
+use clight_types::judged::refused;
+use clight_types::types::copied;
 use std::alloc::Global;
 
 /// The parameters and locals of a function that are declared so far.

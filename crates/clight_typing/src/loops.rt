@@ -6,21 +6,19 @@ ghost use Rattle.clight_syntax.specs.Views.{expr_of as source_of, assignment_of 
 ghost use Rattle.clight_syntax.specs.TypedViews.{assignment_of, cond_of, for_head_of};
 ghost use Rattle.clight_typing.specs.HeldBody.{body_for};
 ghost use Rattle.clight_typing.specs.HeldScopes.{scope_of, signature_for};
-ghost use Rattle.clight_typing.specs.Operands.{is_assignable};
-ghost use Rattle.clight_typing.specs.Outcomes.{Gives};
-ghost use Rattle.clight_typing.specs.Statements.{result_operand, takes_result as takes_result_lem};
+ghost use Rattle.clight_types.specs.Outcomes.{Gives};
+ghost use Rattle.clight_types.specs.Statements.{takes_result as takes_result_lem};
 ghost use Rattle.clight_typing.specs.TypedStatements.{optional, typed_assignment as typed_assignment_lem, typed_for as typed_for_lem, typed_target as typed_target_lem};
-ghost use Rattle.clight_typing.specs.TypedExpressions.{typed_condition as typed_condition_lem};
+ghost use Rattle.clight_types.specs.TypedExpressions.{typed_condition as typed_condition_lem};
 
-use crate::integers::integer_of;
-use crate::judged::refused;
 use crate::scope::{Meaning, Scope, Signature};
-use crate::statements::{Body, is_scalar};
-use crate::types::same_type;
+use crate::statements::Body;
 use cerco_base::{Fault, TypeKind};
 use clight_syntax::tree::{self, CallTarget};
 use clight_syntax::typed::{Assignment, ForHead, ResultTarget};
 use clight_syntax::{Cond, Ty};
+use clight_types::assignable::{is_result_assignable, is_scalar};
+use clight_types::judged::refused;
 
 impl Scope {
     /// An assignment, if there is one. Refused at its first node without a type.
@@ -66,16 +64,6 @@ impl Scope {
             step,
             right: x.right,
         })
-    }
-}
-
-/// Whether the result of a call may be assigned to a variable of this type.
-fn is_result_assignable(result_type: &Ty, ty: &Ty) -> bool
-    ensures { result ≡ is_assignable (result_operand (type_of result_type.now)) (type_of ty.now) }
-{
-    match (result_type, ty) {
-        (Ty::Pointer(one), Ty::Pointer(other)) => same_type(one, other),
-        (_, _) => integer_of(result_type).is_some() && integer_of(ty).is_some(),
     }
 }
 

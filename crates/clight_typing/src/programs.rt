@@ -1,13 +1,13 @@
 //! The typed tree of a whole program (ISO/IEC 9899:1999, 6.9).
 ghost use Rattle.std.specs.Prelude.{◌≡◌, ◌++◌, IfOk, OnOk, map};
 ghost use Rattle.std.specs.Option.{option_map};
-ghost use Rattle.clight_typing.specs.Statements.{option_list};
+ghost use Rattle.clight_types.specs.Statements.{option_list};
 ghost use Rattle.clight_syntax.specs.TypedViews.{item_of, function_of, program_of};
 ghost use Rattle.clight_syntax.specs.Views.{item_of as item_source_of, program_of as program_source_of};
 ghost use Rattle.clight_typing.specs.HeldFile.{file_for};
 ghost use Rattle.clight_typing.specs.HeldFunction.{items_with, step_of, typed_item as typed_item_lem};
 ghost use Rattle.clight_typing.specs.Laws.{IsTypingOf, HasNoTyping, IfRefused};
-ghost use Rattle.clight_typing.specs.Outcomes.{Gives};
+ghost use Rattle.clight_types.specs.Outcomes.{Gives};
 ghost use Rattle.clight_typing.specs.Programs.{definitions as definitions_lem};
 ghost use Rattle.clight_typing.specs.TypedPrograms.{typed_items as typed_items_lem, typed_program as typed_program_lem};
 
@@ -17,6 +17,7 @@ use cerco_base::{CallOrder, Fault, NoMemory};
 use clight_names::main_name;
 use clight_syntax::typed::{Function, Item};
 use clight_syntax::{Program, Typed, tree};
+use clight_types::places::Places;
 use std::alloc::Global;
 
 /// Typed items and the functions that they define.
@@ -82,13 +83,13 @@ fn push_function(
 }
 
 /// The names of the functions that items define, in order.
-fn definitions(alloc: Global, items: &[tree::Item]) -> Result<Vec<u32>, NoMemory>
-    ensures { IfOk result (λ r. r.items ≡ definitions_lem (map item_source_of items.now)) }
+fn definitions(alloc: Global, items: &[tree::Item]) -> Result<Places, NoMemory>
+    ensures { IfOk result (λ r. r ≡ definitions_lem (map item_source_of items.now)) }
 {
-    let mut names = Vec::new(alloc);
+    let mut names = Places::new(alloc);
     for item in items {
         if let tree::Item::Function(f) = item {
-            names.push(f.header.declared.name.number)?;
+            names = names.push(f.header.declared.name.number)?;
         }
     }
     Ok(names)
@@ -124,6 +125,7 @@ fn typed_tree(alloc: Global, program: Program) -> Result<Typed, Fault>
         file: _,
         locals: _,
     } = scope;
+    let structs = structs.into_types()?;
     Ok(Typed {
         names,
         items,

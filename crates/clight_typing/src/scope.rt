@@ -1,15 +1,18 @@
 //! What names mean where they stand (ISO/IEC 9899:1999, 6.2.1).
-ghost use Rattle.std.specs.Prelude.{◌≡◌, [], OnOk, map};
+ghost use Rattle.std.specs.Prelude.{◌≡◌, ◌++◌, ◌∷◌, [], OnOk};
 ghost use Rattle.std.specs.Option.{option_map};
 ghost use Rattle.clight_syntax.specs.TypedViews.{struct_type_of};
 ghost use Rattle.clight_typing.specs.HeldScopes.{meaning_for, scope_of, file_names, named, declared_in};
-ghost use Rattle.clight_typing.specs.Scopes.{nothing, visible, declare as declare_lem};
+ghost use Rattle.clight_types.specs.HeldStructs.{structs_of};
+ghost use Rattle.clight_types.specs.Scopes.{nothing, visible, declare as declare_lem};
 
 use cerco_base::NoMemory;
 use clight_syntax::Ty;
 use clight_syntax::typed::StructType;
+use clight_types::structs::Structs;
 use indexmap::IndexMap;
 use std::alloc::Global;
+use std::mem;
 
 /// The types of a function's result and parameters.
 #[derive(Drop)]
@@ -32,7 +35,7 @@ pub enum Meaning {
 pub struct Scope {
     pub alloc: Global,
     /// The structs, in the order of their definitions.
-    pub structs: Vec<StructType>,
+    pub structs: Structs,
     /// The declarations of the file.
     pub file: IndexMap<u32, Meaning>,
     /// The parameters and locals of the function, which hide those of the file.
@@ -55,14 +58,24 @@ impl Scope {
     /// Nothing is declared.
     pub fn new(alloc: Global) -> Scope
         ensures names { file_names result ≡ nothing }
-        ensures structs { result.structs.items ≡ [] }
+        ensures structs { structs_of result.structs ≡ [] }
     {
         Scope {
             alloc,
-            structs: Vec::new(alloc),
+            structs: Structs::new(alloc),
             file: IndexMap::new(alloc),
             locals: IndexMap::new(alloc),
         }
+    }
+
+    /// Adds a struct. After want of memory the scope is of no use.
+    pub fn add_struct(&mut self, ty: StructType) -> Result<(), NoMemory>
+        ensures names { OnOk result (file_names self.new ≡ file_names self.old) }
+        ensures structs { OnOk result (structs_of self.new.structs ≡ structs_of self.old.structs ++ struct_type_of ty ∷ []) }
+    {
+        let before = mem::replace(&mut self.structs, Structs::new(self.alloc));
+        self.structs = before.push(ty)?;
+        Ok(())
     }
 
     /// Declares a name in the file. After want of memory the scope is of no use.
@@ -86,7 +99,7 @@ impl Scope {
 
     /// Forgets the parameters and locals of the function before.
     pub fn forget_locals(&mut self)
-        ensures scope { scope_of self.new ≡ visible (map struct_type_of self.old.structs.items) (file_names self.old) }
+        ensures scope { scope_of self.new ≡ visible (structs_of self.old.structs) (file_names self.old) }
         ensures names { file_names self.new ≡ file_names self.old }
         ensures structs { self.new.structs ≡ self.old.structs }
     {

@@ -1,24 +1,20 @@
 //! The typed trees of simple statements, or the first node of one that has no type (ISO/IEC 9899:1999, 6.5.2.2, 6.5.16 and 6.8).
 ghost use Rattle.std.specs.Prelude.{◌≡◌, map};
 ghost use Rattle.std.specs.Option.{option_map};
-ghost use Rattle.clight_syntax.specs.Types.{type_of};
-ghost use Rattle.clight_syntax.specs.TypedTrees.{type_at};
 ghost use Rattle.clight_syntax.specs.Views.{expr_of as source_of, assignment_of as assignment_source_of, test_of as test_source_of};
 ghost use Rattle.clight_syntax.specs.TypedViews.{expr_of, assignment_of, test_of, stmt_of};
-ghost use Rattle.clight_typing.specs.Operands.{is_assignable, is_scalar as is_scalar_lem, operand};
 ghost use Rattle.clight_typing.specs.HeldScopes.{scope_of};
 ghost use Rattle.clight_typing.specs.HeldBody.{body_for};
-ghost use Rattle.clight_typing.specs.Outcomes.{Gives};
-ghost use Rattle.clight_typing.specs.Statements.{takes as takes_lem, variable_of as variable_of_lem, reads_into as reads_into_lem, is_own as is_own_lem};
+ghost use Rattle.clight_types.specs.Outcomes.{Gives};
 ghost use Rattle.clight_typing.specs.TypedStatements.{typed_assignment as typed_assignment_lem, typed_test as typed_test_lem, typed_reading, typed_writing, typed_return, assigned as assigned_lem, read_port as read_port_lem};
 
-use crate::judged::refused;
-use crate::operands::{carried, is_integer_value, is_place, is_zero_number, target};
 use crate::scope::Scope;
-use crate::types::same_type;
 use cerco_base::{Fault, TypeKind};
 use clight_syntax::typed::{Assignment, Expr, Stmt, Test};
 use clight_syntax::{Span, Ty, tree};
+use clight_types::assignable::takes;
+use clight_types::judged::refused;
+use clight_types::operands::is_integer_value;
 use indexmap::IndexSet;
 
 /// What stands around the statements of a function.
@@ -33,48 +29,6 @@ pub struct Body<'a> {
     pub addressed: &'a IndexSet<u32>,
     /// Whether the statements stand in a loop.
     pub in_loop: bool,
-}
-
-/// Whether a value may be assigned to a place of this type (ISO/IEC 9899:1999, 6.5.16.1).
-pub fn is_assignable_to(value: &Expr, ty: &Ty) -> bool
-    ensures { result ≡ is_assignable (operand (expr_of value.now)) (type_of ty.now) }
-{
-    match ty {
-        Ty::U8 | Ty::I8 | Ty::I16 | Ty::U16 | Ty::I32 | Ty::U32 => is_integer_value(value),
-        Ty::Pointer(wanted) => match target(value) {
-            Some(pointee) => same_type(pointee, wanted) || is_zero_number(value),
-            None => is_zero_number(value),
-        },
-        _ => false,
-    }
-}
-
-/// Whether a type is an integer or a pointer.
-pub fn is_scalar(ty: &Ty) -> bool
-    ensures { result ≡ is_scalar_lem (type_of ty.now) }
-{
-    match ty {
-        Ty::Void | Ty::Array(_, _) | Ty::Struct(_) => false,
-        _ => true,
-    }
-}
-
-/// Whether the value may be assigned to the target.
-fn takes(target: &Expr, value: &Expr) -> bool
-    ensures { result ≡ takes_lem (expr_of target.now) (expr_of value.now) }
-{
-    is_place(target) && is_scalar(carried(target)) && is_assignable_to(value, carried(target))
-}
-
-/// The variable that an expression is, in any parentheses.
-pub fn variable_of(e: &Expr) -> Option<u32>
-    ensures { result ≡ variable_of_lem (expr_of e.now) }
-{
-    match e {
-        Expr::Variable(_, variable, _) => Some(*variable),
-        Expr::Parenthesis(_, _, part, _) => variable_of(part),
-        _ => None,
-    }
 }
 
 /// An assignment whose parts are typed. Refused with `Assign` where the target doesn't take the value.

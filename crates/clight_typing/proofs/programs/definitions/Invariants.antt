@@ -5,4 +5,4 @@ use Rattle.clight_typing.proofs.programs.definitions.Given as goal
 
 abbrev pub invariant-loop-item : goal.invariant-loop-item
 invariant-loop-item l =
-    definitions_lem (map item_source_of l.items) ≡ l.names.items ++ definitions_lem (map item_source_of (drop l.item-index l.items))
+    definitions_lem (map item_source_of l.items) ≡ l.names ++ definitions_lem (map item_source_of (drop l.item-index l.items))

@@ -1,23 +1,24 @@
 use Rattle.std.proofs.Common.{◌≡◌, ◌∙◌, ℕ, suc, ◌++◌, List, map, nat_eq, Result, Ok, Err, refl, ap, sym, rules}
 use Rattle.clight_syntax.specs.Types.{CType, StructType, type_of}
 use Rattle.clight_syntax.specs.TypedTrees.{Variable'}
-use Rattle.clight_syntax.specs.TypedViews.{function_of, variable_of, struct_type_of}
+use Rattle.clight_syntax.specs.TypedViews.{function_of, variable_of}
 use Rattle.clight_syntax.specs.Views.{function_of as source_of}
-use Rattle.clight_typing.specs.Functions.{File, variables_from}
-use Rattle.clight_typing.specs.Scopes.{Meanings}
+use Rattle.clight_types.specs.Functions.{File, variables_from}
+use Rattle.clight_types.specs.Scopes.{Meanings}
 use Rattle.clight_typing.specs.HeldFile.{file_for}
-use Rattle.clight_typing.specs.Declarations.{parameters_of}
+use Rattle.clight_types.specs.Declarations.{parameters_of}
 use Rattle.clight_typing.specs.HeldFunction.{U, Function', parts_of, with_end, typed_parts, taken_within}
-use Rattle.clight_typing.specs.Statements.{is_among}
+use Rattle.clight_types.specs.Statements.{is_among}
 use Rattle.clight_typing.specs.HeldOwn.{own_of}
 use Rattle.clight_typing.specs.HeldScopes.{file_names}
-use Rattle.clight_typing.specs.TypedExpressions.{TypeFault, Checked, ◌>>=◌}
+use Rattle.clight_types.specs.TypedExpressions.{TypeFault, Checked, ◌>>=◌}
 use Rattle.clight_typing.proofs.Gives.{faulted}
 use Rattle.clight_typing.proofs.FunctionParts.{same_parts, up_to_parts, up_to_few, up_to_same, function_done, made, own_parts, after_parts, parts_in}
 use Rattle.clight_syntax.specs.Views.{stmts_of}
 use Rattle.clight_typing.specs.declared.functions.Opening.{Opening}
 use Rattle.clight_typing.specs.TypedPrograms.{checked_types}
 use Rattle.indexmap.specs.IndexSet.{contains}
+use Rattle.clight_types.specs.HeldStructs.{structs_of}
 use Rattle.clight_typing.proofs.files.File.typed_function.Goals as goal
 
 pub returns-in_err-opening : goal.returns-in_err-opening
@@ -97,6 +98,6 @@ returns c =
     ∙ (ap (λ (f : File). f.variables ++ variables_from marked first 0 0 owns) o.after
     ∙ (ap (λ marked. file.variables ++ variables_from marked first 0 0 owns) (p.addressed ∙ ap (λ b. is_among (taken_within opened.structs first opened.names (parameters_of src.header.parameters) src.locals b)) body_is)
     ∙ ap (λ owns. file.variables ++ variables_from (is_among (taken_within opened.structs first opened.names (parameters_of src.header.parameters) src.locals src.body)) first 0 0 owns) p.owns)))
-    ∙ (ap (λ structs. end structs opened.names (suc opened.functions)) (sym (ap (λ xs. map struct_type_of xs.items) p.structs))
-    ∙ (ap (λ names. end (map struct_type_of c.typed_parts.new.self.structs.items) names (suc opened.functions)) (sym p.names)
-    ∙ ap (λ functions. end (map struct_type_of c.typed_parts.new.self.structs.items) (file_names c.typed_parts.new.self) functions) (sym c.in_ok-self.ensures)))
+    ∙ (ap (λ structs. end structs opened.names (suc opened.functions)) (sym (ap structs_of p.structs))
+    ∙ (ap (λ names. end (structs_of c.typed_parts.new.self.structs) names (suc opened.functions)) (sym p.names)
+    ∙ ap (λ functions. end (structs_of c.typed_parts.new.self.structs) (file_names c.typed_parts.new.self) functions) (sym c.in_ok-self.ensures)))

@@ -6,12 +6,12 @@ use Rattle.clight_syntax.specs.Trees as s
 use Rattle.clight_syntax.specs.TypedTrees.{Local}
 use Rattle.clight_syntax.specs.Views.{local_of as source_of}
 use Rattle.clight_syntax.specs.TypedViews.{local_of}
-use Rattle.clight_typing.specs.Functions.{Own}
+use Rattle.clight_types.specs.Functions.{Own}
 use Rattle.clight_typing.specs.HeldFile.{source_own}
 use Rattle.clight_typing.specs.HeldOwn.{own_of}
 use Rattle.clight_typing.specs.HeldScopes.{scope_of}
-use Rattle.clight_typing.specs.Scopes.{Scope, visible}
-use Rattle.clight_typing.specs.TypedExpressions.{Checked}
+use Rattle.clight_types.specs.Scopes.{Scope, visible}
+use Rattle.clight_types.specs.TypedExpressions.{Checked}
 use Rattle.clight_typing.specs.TypedPrograms.{typed_local, scope_at, behind_locals, first_value_taken, locals_taken}
 use Rattle.clight_typing.proofs.Gives.{faulted}
 use Rattle.clight_typing.proofs.LocalSteps.{walk, locals_next, locals_fail}

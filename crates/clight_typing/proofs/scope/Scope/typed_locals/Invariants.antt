@@ -4,7 +4,7 @@ use Rattle.clight_syntax.specs.Views.{local_of as local_source_of}
 use Rattle.clight_typing.specs.HeldFile.{source_own}
 use Rattle.clight_typing.specs.HeldOwn.{own_of}
 use Rattle.clight_typing.specs.HeldScopes.{scope_of, file_names}
-use Rattle.clight_typing.specs.Scopes.{visible}
+use Rattle.clight_types.specs.Scopes.{visible}
 use Rattle.clight_typing.specs.TypedPrograms.{typed_locals as typed_locals_lem, behind_locals, locals_taken}
 use Rattle.clight_typing.proofs.Walks.{ahead}
 use Rattle.clight_typing.proofs.scope.Scope.typed_locals.Given as goal

@@ -5,7 +5,7 @@ use Rattle.clight_syntax.specs.Views.{stmt_of as source_of, stmts_of as sources_
 use Rattle.clight_syntax.specs.TypedViews.{stmt_of, stmts_of}
 use Rattle.clight_syntax.proofs.TypedRows as typed
 use Rattle.clight_typing.specs.HeldBody.{body_for}
-use Rattle.clight_typing.specs.TypedExpressions.{Checked, ◌>>=◌}
+use Rattle.clight_types.specs.TypedExpressions.{Checked, ◌>>=◌}
 use Rattle.clight_typing.specs.TypedStatements.{typed_stmt, typed_stmts}
 use Rattle.clight_typing.proofs.Gives.{faulted}
 use Rattle.clight_typing.proofs.SourceRows.{block_is, typed_next, typed_fails}

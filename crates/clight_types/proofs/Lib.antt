@@ -1,0 +1,4 @@
+pub mod Sizes
+pub mod Stars
+pub mod PlaceLemmas
+pub mod StructLemmas

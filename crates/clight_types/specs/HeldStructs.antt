@@ -1,0 +1,8 @@
+-- The structs that the checker holds, as definitions speak of them.
+use Rattle.std.specs.Prelude.{List, map}
+use Rattle.clight_syntax.specs.Types.{StructType}
+use Rattle.clight_types.specs.HeldFound.{found_of}
+use Rattle.clight_types.specs.declared.structs.Structs.{Structs}
+
+abbrev pub structs_of : Structs → List StructType
+structs_of x = map found_of x.list.items

@@ -1,7 +1,0 @@
-use Rattle.std.proofs.Common.{◌≡◌, drop}
-use Rattle.clight_syntax.specs.Types.{type_of}
-use Rattle.clight_typing.specs.Declarations.{pointers_to as pointers_to_lem}
-use Rattle.clight_typing.proofs.declarations.pointers_to.Given as goal
-
-abbrev pub invariant-loop-star : goal.invariant-loop-star
-invariant-loop-star l = pointers_to_lem l.stars (type_of l.fn.ty) ≡ pointers_to_lem (drop l._star-index l.stars) (type_of l.pointer)
