@@ -1,11 +1,10 @@
 //! Programs that are checked: the answer for each text, by the rules of the language.
 
-use cerco_base::{Fault, Label, NameKind, NoMemory, Reason, TypeKind};
+use cerco_base::{Fault, NameKind, NoMemory, Reason, TypeKind};
 use clight_check::check;
 use clight_reader::parse;
-use clight_syntax::{Labelled, Piece, Typed};
+use clight_syntax::Typed;
 use clight_tokens::tokens;
-use cost_labels::{label, unlabel};
 use std::alloc::Global;
 use std::test::Fail;
 
@@ -33,7 +32,7 @@ const SOUND: [&str; 19] = [
 ];
 
 // Texts with a wrong name at the first byte of the second part.
-const NAMES: [(&str, &str, NameKind); 41] = [
+const NAMES: [(&str, &str, NameKind); 42] = [
     ("void main(void){int ", "__a;}", NameKind::Reserved),
     ("void main(void){P1=", "__x;}", NameKind::Reserved),
     (
@@ -151,10 +150,11 @@ const NAMES: [(&str, &str, NameKind); 41] = [
     ("char ", "main;", NameKind::Main),
     ("void*", "main(void){return 0;}", NameKind::Main),
     ("int ", "main(void);void main(void){}", NameKind::Main),
+    ("char ", "main;void f(void);", NameKind::Main),
 ];
 
 // Texts of which the part without a type stands at the first byte of the second part.
-const TYPES: [(&str, &str, TypeKind); 135] = [
+const TYPES: [(&str, &str, TypeKind); 138] = [
     ("void main(void){P1=", "40000;}", TypeKind::Long),
     ("void main(void){P1=-", "32768;}", TypeKind::Long),
     ("", "long g;void main(void){}", TypeKind::Long),
@@ -431,6 +431,7 @@ const TYPES: [(&str, &str, TypeKind); 135] = [
         "=1;}",
         TypeKind::Init,
     ),
+    ("int a", "={1};long g;void main(void){}", TypeKind::Init),
     ("int x;void main(void){", "x();}", TypeKind::Call),
     ("void f(int a){}void main(void){", "f();}", TypeKind::Call),
     ("void f(void){}void main(void){", "f(1);}", TypeKind::Call),
@@ -458,6 +459,11 @@ const TYPES: [(&str, &str, TypeKind); 135] = [
     (
         "int*f(void){return 0;}void main(void){int x;x",
         "=f();}",
+        TypeKind::Call,
+    ),
+    (
+        "void f(void){}void main(void){",
+        "f(1);break;}",
         TypeKind::Call,
     ),
     (
@@ -510,6 +516,7 @@ const TYPES: [(&str, &str, TypeKind); 135] = [
     ),
     ("void main(void){char t[2];t[0]", "=P1;}", TypeKind::Port),
     ("void main(void){1", "=P1;}", TypeKind::Port),
+    ("int*p;void main(void){P1", "=p;break;}", TypeKind::Port),
     (
         "void f(int a);void ",
         "f(char a){}void main(void){}",
@@ -668,6 +675,11 @@ fn calls_and_data_have_their_limits(rt: HostRuntime) -> Result<(), Fail> {
     assert_eq!(rt;
         refusal(alloc, &call_path(alloc, 64, "char t[65534];char u;")?),
         deep
+    );
+    let cycle = Some(Fault::Refused(Reason::Recursion { at: 5 }));
+    assert_eq!(rt;
+        refusal(alloc, &call_path(alloc, 64, "void r(void){r();}")?),
+        cycle
     );
     for (text, total) in &DATA {
         let reason = total.map(|total| Fault::Refused(Reason::DataFull { total }));
