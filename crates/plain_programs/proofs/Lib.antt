@@ -1,0 +1,5 @@
+pub mod NamesOnce
+pub mod PlainTrees
+pub mod PlainTyping
+pub mod ThinPrograms
+pub mod PlainLaws
