@@ -2,4 +2,6 @@ pub mod NamesOnce
 pub mod PlainTrees
 pub mod PlainTyping
 pub mod ThinPrograms
+pub mod ThinLayout
 pub mod PlainLaws
+pub mod Examples

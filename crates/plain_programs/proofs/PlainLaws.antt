@@ -21,6 +21,7 @@ use Rattle.plain_programs.specs.Laws.{IsPlainTree, HasLabelled, IsPlainMeaning, 
 use Rattle.plain_programs.proofs.PlainTrees.{main_function, IsMainFunction, HasMain, main_of, main_number}
 use Rattle.plain_programs.proofs.PlainTyping.{AreWrites, writes_typed}
 use Rattle.plain_programs.proofs.ThinPrograms.{IsThin, thin_means, thin_labelled, labelled_program}
+use Rattle.plain_programs.proofs.ThinLayout.{thin_layout}
 
 -- ---- the typed tree of a program that is `main` alone
 
@@ -62,7 +63,7 @@ plain_typed text tree plain is =
     let name = f.header.declared.name in
     let g = main_function main.main.void name f.header.left main.main.none f.header.right f.left f.body f.right in
     let same : tree ≡ record { names = tree.names; items = s.FunctionItem g ∷ []; span = tree.span } =
-        ap (λ items. record { names = tree.names; items = items; span = tree.span }) (main.alone ∙ ap (λ x. s.FunctionItem x ∷ []) main.main.is) in
+    ap (λ items. record { names = tree.names; items = items; span = tree.span }) (main.alone ∙ ap (λ x. s.FunctionItem x ∷ []) main.main.is) in
     let writes = writes_typed (around (no_file (name.number ∷ [])) g) f.body plain.values main.writes in
     record {
       typed = with_statements tree.names tree.span main.main.void name f.header.left main.main.none f.header.right f.left f.body f.right writes.tree;
@@ -104,3 +105,10 @@ mean_their_writes text tree plain p is has =
     let thin : IsThin has.typed plain = subst (λ (t : TypedProgram (Unit {0})). IsThin t plain) same typed.thin in
     let laid : IsThin has.laid plain = thin_laid has.typed has.laid plain thin has.is_laid in
     thin_means p plain (thin_labelled has.laid p plain laid has.is_labelled) has.is_labelled.numbered
+
+pub are_labelled : PlainProgramsAreLabelled
+are_labelled text tree plain is =
+    let typed = plain_typed text tree plain is in
+    let laid = thin_layout typed.typed plain typed.thin typed.no_variables in
+    let p = labelled_program laid.0 plain (thin_laid typed.typed laid.0 plain typed.thin laid.1) in
+    (p.0, record { typed = typed.typed; laid = laid.0; is_typed = typed.is; is_laid = laid.1; is_labelled = p.1 })

@@ -31,15 +31,18 @@ no_cycle : (f : ℕ) (between : List ℕ) → IsCallPath 1 (Calls alone) (f ∷ 
 no_cycle f [] h = no_call f f h.1.0
 no_cycle f (g ∷ between) h = no_call f g h.1.0
 
+sum_of_one : (size : ℕ) → sum_along (size ∷ []) (0 ∷ []) ≡ size
+sum_of_one size = omega arith
+
 -- the only path is the function itself
 largest_sum : (size : ℕ) → IsLargestSum 1 (Calls alone) (size ∷ []) size
-largest_sum size = record { some = (0 ∷ [], inl (omega arith, tt), refl); most = most }
+largest_sum size = record { some = (0 ∷ [], inl (omega arith, tt), sum_of_one size); most = most }
   where
     most : (path : List ℕ) → IsCallPath 1 (Calls alone) path → sum_along (size ∷ []) path ≤ size
     most [] h = absurd h
     most (f ∷ more) h =
         let first : f ≡ 0 = let below = h.0 in omega arith in
-        let whole : sum_along (size ∷ []) (f ∷ more) ≡ size = ap₂ (λ g rest. sum_along (size ∷ []) (g ∷ rest)) first (no_more f more h.1) in
+        let whole : sum_along (size ∷ []) (f ∷ more) ≡ size = ap₂ (λ g rest. sum_along (size ∷ []) (g ∷ rest)) first (no_more f more h.1) ∙ sum_of_one size in
         omega arith
 
 none_before : (f : ℕ) (path : List ℕ) → IsCallPath 1 (Calls alone) (path ++ f ∷ []) → path ≡ []
@@ -73,6 +76,7 @@ is_order = record {
     once : (i : ℕ) → i < 1 → Contains (take i (0 ∷ [])) (slice_index (0 ∷ []) i) → ⊥
     once zero below h = let none = h.1 in omega arith
     once (suc i) below h = omega arith
+
     callers_before : (i : ℕ) → i < 1 → All (Contains (take i (0 ∷ []))) (callers_at order i)
     callers_before zero below k d h = absurd (omega arith)
     callers_before (suc i) below k d h = absurd (omega arith)

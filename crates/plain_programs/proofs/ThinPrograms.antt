@@ -226,8 +226,10 @@ labelled_program laid plain thin =
     let labelled = all_with_labels g.body plain.values thin.writes_all in
     let f = with_body g labelled.tree in
     let writes_all = all_labelled labelled.tree plain.values (subst (λ xs. WriteAll xs plain.values) (sym labelled.is) thin.writes_all) in
-    let numbered : AreNumberedInOrder (labels_in (point 0 Start ∷ ((point g.left.to (After (label 0)) ∷ []) ++ []))) = refl in
-    (with_function laid f, record {
-      typed_alone = ap (λ xs. with_functions laid (with_stmts g xs ∷ [])) labelled.is ∙ ap (with_functions laid) (sym thin.alone);
-      numbered = subst (λ (ps : List Point). AreNumberedInOrder (labels_in (point 0 Start ∷ ((point g.left.to (After (label 0)) ∷ ps) ++ [])))) (sym (no_points labelled.tree plain.values writes_all)) numbered;
-    })
+    let numbered : AreNumberedInOrder (labels_in (point 0 Start ∷ ((point g.left.to (After (label 0)) ∷ []) ++ []))) = refl in (
+      with_function laid f,
+      record {
+        typed_alone = ap (λ xs. with_functions laid (with_stmts g xs ∷ [])) labelled.is ∙ ap (with_functions laid) (sym thin.alone);
+        numbered = subst (λ (ps : List Point). AreNumberedInOrder (labels_in (point 0 Start ∷ ((point g.left.to (After (label 0)) ∷ ps) ++ [])))) (sym (no_points labelled.tree plain.values writes_all)) numbered;
+      },
+    )
