@@ -1,6 +1,6 @@
 -- Each name of a source has one number: among names that differ, the number of the first one with a spelling is that of each one with it.
 use Rattle.std.proofs.Common.{◌≡◌, ℕ, zero, suc, Bool, true, false, ◌||◌, List, [], ◌∷◌, ◌++◌, refl, sym, ap, subst, ◌∙◌, true≢false, slice_index_or}
-use Rattle.std.specs.Prelude.{fold, filter, if◌then◌else◌, cond}
+use Rattle.std.specs.Prelude.{fold, if◌then◌else◌}
 use Rattle.std.specs.List.{list_any}
 use Rattle.std.specs.Str.{bytes_eq}
 use Rattle.std.proofs.lemmas.Slice.Eq.{bytes_eq-Decides}

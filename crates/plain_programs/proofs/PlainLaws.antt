@@ -1,25 +1,22 @@
 -- The laws of plain programs: the typed tree of a plain one is thin, and so are its layout and its labelled program.
-use Rattle.std.proofs.Common.{◌≡◌, ℕ, suc, Bool, true, false, List, [], ◌∷◌, Result, Ok, Err, refl, sym, ap, subst, ◌∙◌, nat_eq, arith}
+use Rattle.std.proofs.Common.{◌≡◌, ℕ, suc, true, List, [], ◌∷◌, Ok, refl, sym, ap, subst, ◌∙◌, nat_eq, arith}
 use Rattle.std.specs.Prelude.{if◌then◌else◌}
 use Rattle.std.proofs.lemmas.Bool.Decides.{nat_tests}
-use Rattle.cerco_base.specs.declared.events.Label.{Label}
 use Rattle.clight_syntax.specs.declared.span.Span.{Span}
 use Rattle.clight_syntax.specs.declared.tree.Name.{Name}
 use Rattle.clight_syntax.specs.Trees as s
 use Rattle.clight_syntax.specs.TypedTrees.{Stmts, Function, FunctionItem, TypedProgram}
-use Rattle.clight_syntax.specs.Labelling.{IsLabelled}
 use Rattle.clight_names.specs.Spellings.{main_name}
-use Rattle.clight_typing.specs.Statements.{Body}
-use Rattle.clight_typing.specs.Functions.{File, function_number}
+use Rattle.clight_typing.specs.Functions.{File}
 use Rattle.clight_typing.specs.Programs.{after_function, no_file}
 use Rattle.clight_typing.specs.TypedExpressions.{Checked, ◌>>=◌}
 use Rattle.clight_typing.specs.TypedStatements.{typed_stmts}
-use Rattle.clight_typing.specs.TypedPrograms.{Items, with_item, with_function, asked, around, function_with, program_with, typed_program}
+use Rattle.clight_typing.specs.TypedPrograms.{Items, around, function_with, program_with, typed_program}
 use Rattle.clight_layout.specs.Layout.{IsLayout}
 use Rattle.plain_programs.specs.PlainPrograms.{Plain}
-use Rattle.plain_programs.specs.Laws.{IsPlainTree, HasLabelled, IsPlainMeaning, PlainProgramsMeanTheirWrites, PlainProgramsAreLabelled}
-use Rattle.plain_programs.proofs.PlainTrees.{main_function, IsMainFunction, HasMain, main_of, main_number}
-use Rattle.plain_programs.proofs.PlainTyping.{AreWrites, writes_typed}
+use Rattle.plain_programs.specs.Laws.{IsPlainTree, PlainProgramsMeanTheirWrites, PlainProgramsAreLabelled}
+use Rattle.plain_programs.proofs.PlainTrees.{main_function, main_of, main_number}
+use Rattle.plain_programs.proofs.PlainTyping.{writes_typed}
 use Rattle.plain_programs.proofs.ThinPrograms.{IsThin, thin_means, thin_labelled, labelled_program}
 use Rattle.plain_programs.proofs.ThinLayout.{thin_layout}
 

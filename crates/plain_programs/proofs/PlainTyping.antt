@@ -1,11 +1,10 @@
 -- The typed tree of a plain program: each of its statements writes an expression whose value is a number below 256.
-use Rattle.std.proofs.Common.{◌≡◌, ℕ, ◌<◌, ◌≤◌, ◌+◌, ◌-◌, ◌%◌, ◌^◌, Bool, true, false, List, [], ◌∷◌, ◌++◌, Option, Some, None, Result, Ok, Err, refl, sym, ap, ap₂, ◌∙◌, cond, arith}
-use Rattle.std.specs.Prelude.{nat_lt, nat_le, if◌then◌else◌, not}
+use Rattle.std.proofs.Common.{◌≡◌, ℕ, ◌<◌, ◌+◌, ◌-◌, ◌%◌, ◌^◌, Bool, true, false, List, [], ◌∷◌, ◌++◌, Some, None, Ok, refl, sym, ap, ap₂, ◌∙◌, cond, arith}
+use Rattle.std.specs.Prelude.{nat_lt, nat_le, if◌then◌else◌}
 use Rattle.std.proofs.lemmas.Bool.Decides.{nat_tests}
 use Rattle.cerco_base.specs.declared.events.Label.{Label}
 use Rattle.cerco_base.specs.declared.reasons.TypeKind.TheVariants as k
 use Rattle.clight_syntax.specs.declared.span.Span.{Span}
-use Rattle.clight_syntax.specs.declared.symbol.Literal.{Literal}
 use Rattle.clight_syntax.specs.declared.symbol.Radix.{Radix}
 use Rattle.clight_syntax.specs.declared.symbol.Radix.TheVariants.{Decimal, Octal, Hexadecimal}
 use Rattle.clight_syntax.specs.Trees as s

@@ -1,10 +1,10 @@
 -- A program that is `main` alone, without variables and calls, has a layout: one frame without bytes behind the globals, of which
 -- there are none.
-use Rattle.std.proofs.Common.{◌≡◌, ℕ, zero, suc, ◌+◌, ◌<◌, ◌≤◌, ◌⊎◌, inl, ◌↔◌, List, [], ◌∷◌, ◌++◌, map, length, take, drop, slice_index, slice_index_or, refl, sym, ap, ap₂, subst, subst₂, ◌∙◌, All, arith}
+use Rattle.std.proofs.Common.{◌≡◌, ℕ, zero, suc, ◌+◌, ◌<◌, ◌≤◌, inl, ◌↔◌, List, [], ◌∷◌, ◌++◌, map, length, take, drop, slice_index, slice_index_or, refl, sym, ap, ap₂, subst, subst₂, ◌∙◌, All, arith}
 use Rattle.std.specs.Prelude.{filter, nat_lt}
 use Rattle.std.specs.List.{Contains}
-use Rattle.cerco_base.specs.CallOrder.{Called, IsCallOrder, callers_at, functions_of}
-use Rattle.call_graph.specs.CallPaths.{Calls, CallsIn, AreCalledFrom, IsCallPath, IsOnCycle, sum_along, IsLargestSum, IsLargestSumBefore, IsOrderOf}
+use Rattle.cerco_base.specs.CallOrder.{Called, callers_at}
+use Rattle.call_graph.specs.CallPaths.{Calls, AreCalledFrom, IsCallPath, sum_along, IsLargestSum, IsLargestSumBefore, IsOrderOf}
 use Rattle.clight_syntax.specs.TypedTrees.{Stmt, WritePort, Stmts, NoStmts, Then, Local, Function, TypedProgram}
 use Rattle.clight_layout.specs.declared.sizes.Area.TheVariants.{Globals, Frame}
 use Rattle.clight_layout.specs.Calls.{stmt_calls, stmts_calls, callees}

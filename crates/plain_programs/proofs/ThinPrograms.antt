@@ -1,10 +1,9 @@
 -- Typed programs that are `main` alone, and whose `main` writes numbers: what they mean, and that a plain tree has such ones.
-use Rattle.std.proofs.Common.{◌≡◌, ℕ, zero, suc, ◌+◌, Bool, true, false, List, [], ◌∷◌, ◌++◌, map, length, take, drop, Option, Some, None, Result, Ok, Err, refl, sym, ap, ap₂, subst, ◌∙◌, append_assoc, append-nil, nat_eq, arith}
+use Rattle.std.proofs.Common.{◌≡◌, ℕ, zero, suc, ◌+◌, List, [], ◌∷◌, ◌++◌, map, length, take, drop, Some, Ok, refl, sym, ap, ap₂, subst, ◌∙◌, append_assoc, append-nil}
 use Rattle.std.specs.Prelude.{slice_get}
 use Rattle.std.specs.List.{flat_map}
 use Rattle.std.proofs.lemmas.List.{map-append}
-use Rattle.cerco_base.specs.Events.{Stopped, Ended}
-use Rattle.cerco_base.specs.Events as events
+use Rattle.cerco_base.specs.Events.{Ended}
 use Rattle.cerco_base.specs.Preservation.{Outcome, Stops, Faults, and_then}
 use Rattle.cerco_base.specs.declared.events.Event.{Event}
 use Rattle.cerco_base.specs.declared.events.Event.TheVariants as event
@@ -13,11 +12,10 @@ use Rattle.cerco_base.specs.declared.events.Label.{Label}
 use Rattle.clight_syntax.specs.declared.points.Piece.TheVariants.{Start, After}
 use Rattle.clight_syntax.specs.declared.points.Point.{Point}
 use Rattle.clight_syntax.specs.Annotations.{labels_in, AreNumberedInOrder}
-use Rattle.clight_syntax.specs.Trees as s
 use Rattle.clight_syntax.specs.TypedTrees.{Stmt, Empty, Block, Assign, ReadPort, WritePort, CallOf, If, IfElse, While, Do, For, Break, Continue, Return, Stmts, NoStmts, Then, Local, Function, TypedProgram}
-use Rattle.clight_syntax.specs.Labelling.{stmt_without, stmts_without, function_without, without_labels, point, stmt_points, stmts_points, function_points, points_of, IsLabelled}
+use Rattle.clight_syntax.specs.Labelling.{stmt_without, stmts_without, function_without, point, stmt_points, stmts_points, function_points, points_of, IsLabelled}
 use Rattle.clight_values.specs.declared.value.Value as w
-use Rattle.clight_values.specs.Memory.{State, Answer, initial}
+use Rattle.clight_values.specs.Memory.{State, Answer}
 use Rattle.clight_meaning.specs.Meaning.{Rest, only, says, passes, with_state, with_byte, then_state, Calling, Goes, body_goes, homed, initialised, entered, prepared, beginning, run, run_all, call_of, calls, source}
 use Rattle.clight_meaning.proofs.Agreeing.{calls_unfold}
 use Rattle.plain_programs.specs.PlainPrograms.{Plain, points, writes, meaning}
