@@ -2,6 +2,7 @@ mod WordLists
 mod PlainExamples
 mod PlainWrites
 mod PlainTrees
+mod SoundPrograms
 mod OneTree
 mod PortCosts
 mod PortCode

@@ -14,6 +14,7 @@ use Rattle.sim51.specs.Runs.{object, cycles_of_run}
 use Rattle.cerco_command.specs.Words.{BuildFiles}
 use Rattle.cerco_base.specs.declared.reasons.Reason.{Reason}
 use Rattle.clight_reader.specs.Reasons.{HasReason}
+use Rattle.clight_check.specs.Soundness.{HasUnsoundness}
 use Rattle.cerco_command.specs.PlainPrograms.{Plain, IsPlainProgram, IsOtherProgram, points, meaning}
 use Rattle.cerco_command.specs.Refusals.{refused}
 use Rattle.cerco_command.specs.Answers.{NamedText, ArePartlyWritten}
@@ -68,10 +69,14 @@ pub record PartlyBuilds (files : BuildFiles) (s t : FilesState) : Type 0 where
   pub texts : AreCompiled source hex map annotated
   pub written : ArePartlyWritten (outputs files hex map annotated) s t
 
--- The line names the first reason for which the source has no syntax tree; or it has one, which isn't compiled yet.
+-- the first of the reasons 1 to 11 that a text has: why it has no syntax tree, or why its tree is unsound
+abbrev pub HasFirstReason : List ℕ → Reason → Type 0
+HasFirstReason text reason = HasReason text reason ⊎ HasUnsoundness text reason
+
+-- The line names the first reason of the source; or it has none, and isn't compiled yet.
 abbrev pub SaysRefused : List ℕ → List ℕ → Type 0
 SaysRefused source line =
-    ((reason : Reason) × HasReason source reason × (line ≡ refused reason)) ⊎ (IsOtherProgram source × (line ≡ unsupported))
+    ((reason : Reason) × HasFirstReason source reason × (line ≡ refused reason)) ⊎ (IsOtherProgram source × (line ≡ unsupported))
 
 -- the source is what stands under its name, and no file has changed
 pub record Refuses (files : BuildFiles) (s t : FilesState) (source : List ℕ) : Type 0 where

@@ -13,6 +13,8 @@ use Rattle.clight_syntax.specs.declared.tree.Specifiers.{Specifiers}
 use Rattle.clight_syntax.specs.declared.tree.Specifiers.TheVariants.{Void}
 use Rattle.clight_syntax.specs.SourceTrees.{IsSourceTree}
 use Rattle.clight_syntax.specs.Trees.{Expr, Number, Parenthesis, Stmt, WritePort, Stmts, NoStmts, Then, Declared, Parameters, NoParameters, Header, Function, Item, FunctionItem, Program}
+use Rattle.clight_syntax.specs.TypedTrees.{TypedProgram}
+use Rattle.clight_check.specs.Soundness.{IsSound}
 
 -- the number of at most 255 that an expression is, in any parentheses
 abbrev pub plain_value : Expr → Option ℕ
@@ -75,16 +77,20 @@ plain_items names _ = None
 abbrev pub plain_program : Program → Option Plain
 plain_program p = plain_items p.names p.items
 
--- the text is a program that writes these values
+-- the text is a sound program that writes these values
 pub record IsPlainProgram (text : List ℕ) (plain : Plain) : Type 0 where
   pub tree : Program
   pub is_tree : IsSourceTree text tree
+  pub laid_out : TypedProgram (Unit {0})
+  pub sound : IsSound tree laid_out
   pub plain_tree : plain_program tree ≡ Some plain
 
--- the text is a program, and no such one
+-- the text is a sound program, and no such one
 pub record IsOtherProgram (text : List ℕ) : Type 0 where
   pub tree : Program
   pub is_tree : IsSourceTree text tree
+  pub laid_out : TypedProgram (Unit {0})
+  pub sound : IsSound tree laid_out
   pub other : plain_program tree ≡ None
 
 -- where its annotations stand: at the text's start, and with label 0 behind the brace that opens `main`
