@@ -2,11 +2,9 @@
 #![tactic(auto)]
 
 #[cfg(test)]
+mod checks;
+#[cfg(test)]
 mod labels;
-#[cfg(test)]
-mod layouts;
-#[cfg(test)]
-mod names;
 #[cfg(test)]
 mod runs;
 #[cfg(test)]

@@ -1,0 +1,2 @@
+pub mod UniqueLayouts
+pub mod SoundnessLaws
