@@ -6,6 +6,8 @@ mod checks;
 #[cfg(test)]
 mod labels;
 #[cfg(test)]
+mod ring_buffer;
+#[cfg(test)]
 mod runs;
 #[cfg(test)]
 mod trees;
