@@ -114,7 +114,7 @@ made files source hex map annotated s t status line texts f = record { hex = hex
 
 module _ (files : BuildFiles) (text : List ℕ) (s t u : FilesState) (later : s.faults ≤ t.faults) (read : IsTrue s.known → IsRead 65536 s files.source text) (same : IsTrue s.known → SameFiles s t) (known : IsTrue s.known → IsTrue t.known) where
   source_read : (hex map annotated : List ℕ) → AreCompiled text hex map annotated → (h : IsTrue s.known) → s.file files.source ≡ Some text
-  source_read hex map annotated c h = let r = read h in r.1 ∙ ap Some (sym (whole text r.0 r.2 c.compiled.program.is_tree.tokens.source.short))
+  source_read hex map annotated c h = let r = read h in r.1 ∙ ap Some (sym (whole text r.0 r.2 c.compiled.is_tree.tokens.source.short))
 
   part : (hex map annotated : List ℕ) → AreCompiled text hex map annotated → (IsTrue t.known → ArePartlyWritten (outputs files hex map annotated) t u) → IsTrue s.known → PartlyBuilds files s u
   part hex map annotated a p h =

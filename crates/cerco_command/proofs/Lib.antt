@@ -2,7 +2,6 @@ mod WordLists
 mod PlainExamples
 mod PlainWrites
 mod PlainTrees
-mod SoundPrograms
 mod OneTree
 mod PortCosts
 mod PortCode

@@ -19,8 +19,9 @@ use Rattle.clight_reader.specs.Reasons.{token_start, HasNoTree, HasReason}
 use Rattle.clight_reader.proofs.Programs.{one_program}
 use Rattle.clight_reader.proofs.OneFault as fault
 use Rattle.clight_reader.proofs.OneNesting.{one_nesting, not_shallow}
-use Rattle.cerco_command.specs.PlainPrograms.{Plain, IsPlainProgram, IsOtherProgram, plain_program}
-use Rattle.cerco_command.specs.Building.{HasFirstReason, SaysRefused}
+use Rattle.plain_programs.specs.PlainPrograms.{plain_program}
+use Rattle.cerco_command.specs.PlainPrograms.{IsOtherProgram}
+use Rattle.cerco_command.specs.Building.{IsCompiled, HasFirstReason, SaysRefused}
 use Rattle.cerco_command.specs.Refusals.{refused}
 
 abbrev with_parts : List (List ℕ) → List Item → Span → Program
@@ -95,15 +96,15 @@ one_first text a b (inr h) (inl g) = absurd (tree_or_reason text h.0 b h.1 g)
 
 -- ---- answers
 
-plain_or_other : (text : List ℕ) (plain : Plain) → IsPlainProgram text plain → IsOtherProgram text → ⊥
-plain_or_other text plain p q =
+compiled_or_other : (text code labels annotated : List ℕ) → IsCompiled text code labels annotated → IsOtherProgram text → ⊥
+compiled_or_other text code labels annotated p q =
     let some = p.plain_tree in
     let none = ap plain_program (one_tree text p.tree q.tree p.is_tree q.is_tree) ∙ q.other in
     cc
 
-pub plain_or_refused : (text line : List ℕ) (plain : Plain) → IsPlainProgram text plain → SaysRefused text line → ⊥
-plain_or_refused text line plain p (inl h) = sound_or_reason text p.tree p.laid_out h.0 p.is_tree p.sound h.1
-plain_or_refused text line plain p (inr h) = plain_or_other text plain p h.0
+pub compiled_or_refused : (text code labels annotated line : List ℕ) → IsCompiled text code labels annotated → SaysRefused text line → ⊥
+compiled_or_refused text code labels annotated line p (inl h) = sound_or_reason text p.tree p.laid_out h.0 p.is_tree p.sound h.1
+compiled_or_refused text code labels annotated line p (inr h) = compiled_or_other text code labels annotated p h.0
 
 pub one_refusal : (text a b : List ℕ) → SaysRefused text a → SaysRefused text b → a ≡ b
 one_refusal text a b (inl h) (inl g) = h.2 ∙ (ap refused (one_first text h.0 g.0 h.1 g.1) ∙ sym g.2)

@@ -17,7 +17,8 @@ use Rattle.sim51.specs.Runs.{events_of}
 use Rattle.cerco_command.specs.Words.{BuildFiles}
 use Rattle.cerco_command.specs.Answers.{NamedText, AreWritten, ArePartlyWritten}
 use Rattle.cerco_command.specs.Building.{AreCompiled, HasFirstReason, SaysRefused, outputs}
-use Rattle.cerco_command.specs.PlainPrograms.{Plain, IsPlainProgram, IsOtherProgram}
+use Rattle.plain_programs.specs.PlainPrograms.{Plain}
+use Rattle.cerco_command.specs.PlainPrograms.{IsPlainProgram, IsOtherProgram}
 use Rattle.cerco_command.specs.Messages.{file_fault, event_lines, reserved_line}
 use Rattle.cerco_command.specs.Running.{Stops}
 use Rattle.cerco_command.specs.Disassembly.{listed_at}
