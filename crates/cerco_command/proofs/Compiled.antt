@@ -83,7 +83,7 @@ compiled source text plain marks p annotations erases said =
     let has = found.1 in
     let meant = mean_their_writes source p.tree plain program tree has in
     let Keeps : List ℕ → ℕ → Outcome FaultKind → Type 0 = λ script n told. KeepsTo (object (code plain.values) labels) cycles_of_run (cost_at text) script n told in
-    let holds = headline_holds (code plain.values) plain.values (stands plain.values (few source plain p)) text (said ∙ ap (λ c. 4 ∷ c ∷ []) (cost_of_body plain.values)) in
+    let holds = headline_holds (code plain.values) plain.values (stands plain.values (few source plain p)) text (said ∙ ap (λ c. 4 ∷ c ∷ []) (cost_of_body plain.values)) {F = FaultKind} in
     record {
       tree = p.tree;
       is_tree = p.is_tree;
