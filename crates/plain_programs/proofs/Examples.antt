@@ -1,19 +1,16 @@
 -- Plain programs, computed.
-use Rattle.std.proofs.Common.{◌≡◌, ℕ, false, List, [], ◌∷◌, Option, Some, None, Result, Ok, Err, codes, refl}
-use Rattle.cerco_base.specs.Events.{Stopped, Ended, label}
+use Rattle.std.proofs.Common.{◌≡◌, ℕ, false, List, [], ◌∷◌, Option, Some, None, Ok, Err, codes, refl}
+use Rattle.cerco_base.specs.Events.{Ended, label}
 use Rattle.cerco_base.specs.Preservation.{Outcome, Stops}
 use Rattle.cerco_base.specs.declared.events.FaultKind.{FaultKind}
-use Rattle.cerco_base.specs.declared.events.Label.{Label}
 use Rattle.clight_syntax.specs.declared.span.Span.{Span}
 use Rattle.clight_syntax.specs.declared.symbol.Radix.TheVariants.{Decimal}
 use Rattle.clight_syntax.specs.declared.tree.Specifiers.TheVariants.{Void}
 use Rattle.clight_syntax.specs.Trees as s
-use Rattle.clight_syntax.specs.Labelling.{points_of}
-use Rattle.clight_syntax.specs.TypedTrees.{TypedProgram}
 use Rattle.clight_syntax.proofs.LabelsDetermined.{labelled_from}
 use Rattle.clight_typing.specs.TypedPrograms.{typed_program}
 use Rattle.clight_meaning.specs.Meaning.{again, calls, source}
-use Rattle.plain_programs.specs.PlainPrograms.{Plain, plain_program, points, writes, meaning}
+use Rattle.plain_programs.specs.PlainPrograms.{Plain, plain_program, writes, meaning}
 
 abbrev at : ℕ → ℕ → Span
 at from to = record { from = from; to = to }

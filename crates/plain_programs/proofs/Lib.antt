@@ -5,3 +5,4 @@ pub mod ThinPrograms
 pub mod ThinLayout
 pub mod PlainLaws
 pub mod Examples
+pub mod Headlines
