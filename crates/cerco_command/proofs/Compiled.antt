@@ -10,9 +10,6 @@ use Rattle.object_hex.proofs.HexBack.{hex_text-means}
 use Rattle.object_hex.proofs.MapBack.{map_text-means}
 use Rattle.std.specs.List.{flat_map}
 use Rattle.cerco_base.specs.States.{SinkState}
-use Rattle.cerco_base.specs.Headline.{KeepsTo}
-use Rattle.cerco_base.specs.Preservation.{Outcome}
-use Rattle.cerco_base.specs.declared.events.FaultKind.{FaultKind}
 use Rattle.cerco_base.specs.Calls.{PutsText}
 use Rattle.cerco_base.specs.declared.faults.IoFault.{IoFault}
 use Rattle.clight_syntax.specs.Annotations.{Costs, annotated, numbers_of}
@@ -21,8 +18,7 @@ use Rattle.clight_syntax.specs.Numbers.{numbers, cost_at}
 use Rattle.sim51.specs.Runs.{object, cycles_of_run}
 use Rattle.clight_syntax.specs.declared.points.Point.{Point}
 use Rattle.plain_programs.specs.PlainPrograms.{Plain, points}
-use Rattle.plain_programs.specs.Laws.{IsPlainTree}
-use Rattle.plain_programs.proofs.PlainLaws.{mean_their_writes, are_labelled}
+use Rattle.plain_programs.proofs.Headlines.{keeps_to_labelled}
 use Rattle.cerco_command.specs.PlainPrograms.{IsPlainProgram}
 use Rattle.cerco_command.proofs.PlainTrees.{few, are_bytes}
 use Rattle.cerco_command.specs.PortObjects.{write, code, labels, costs}
@@ -77,23 +73,19 @@ labels_mean = map_text-means labels (lit≤ tt) small (λ i j before within. abs
 
 pub compiled : (source text : List ℕ) (plain : Plain) (marks : Costs) → IsPlainProgram source plain → text ≡ annotated source (points plain.body) marks → erased text ≡ source → numbers text ≡ flat_map (λ (point : Point). numbers_of (costs plain.values) point.piece) (points plain.body) → IsCompiled source (code plain.values) labels text
 compiled source text plain marks p annotations erases said =
-    let tree : IsPlainTree source p.tree plain = record { is_tree = p.is_tree; plain_tree = p.plain_tree } in
-    let found = are_labelled source p.tree plain tree in
-    let program = found.0 in
-    let has = found.1 in
-    let meant = mean_their_writes source p.tree plain program tree has in
-    let Keeps : List ℕ → ℕ → Outcome FaultKind → Type 0 = λ script n told. KeepsTo (object (code plain.values) labels) cycles_of_run (cost_at text) script n told in
-    let holds = headline_holds (code plain.values) plain.values (stands plain.values (few source plain p)) text (said ∙ ap (λ c. 4 ∷ c ∷ []) (cost_of_body plain.values)) {F = FaultKind} in
+    let holds = headline_holds (code plain.values) plain.values (stands plain.values (few source plain p)) text (said ∙ ap (λ c. 4 ∷ c ∷ []) (cost_of_body plain.values)) in
+    let kept = keeps_to_labelled (object (code plain.values) labels) cycles_of_run (cost_at text) plain ⊥ source p.tree (record { is_tree = p.is_tree; plain_tree = p.plain_tree }) holds in
+    let has = kept.labelled in
     record {
       tree = p.tree;
       is_tree = p.is_tree;
       laid_out = has.laid;
       sound = record { names = p.sound.names; typed = has.typed; typing = has.is_typed; layout = has.is_laid };
-      program = program;
+      program = kept.program;
       labelled = has.is_labelled;
-      headline = λ script ok n. subst (Keeps script n) (sym (meant.means script n)) (holds script ok n);
+      headline = kept.headline;
       costs = marks;
-      annotations = annotations ∙ ap (λ (ps : List Point). annotated source ps marks) (sym meant.annotated);
+      annotations = annotations ∙ ap (λ (ps : List Point). annotated source ps marks) (sym kept.annotated);
       erases = erases;
       plain = plain;
       plain_tree = p.plain_tree;

@@ -164,7 +164,7 @@ module _ (code : List ℕ) where
           let a = start_is in let b = main_is in
           omega arith
 
-      pub headline_holds : {F : Type 0} → Headline (meaning {Fault = F} values) (object code labels) cycles_of_run (cost_at text)
+      pub headline_holds : Headline (meaning {Fault = ⊥} values) (object code labels) cycles_of_run (cost_at text)
       headline_holds script ok zero =
           let k = steps_of (object code labels) (to_main script) in
           let cost : cost_at text [] ≡ 4 = (let a = start_is in omega arith) in
