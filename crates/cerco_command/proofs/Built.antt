@@ -8,10 +8,11 @@ use Rattle.cerco_base.proofs.Putting.{rose_since}
 use Rattle.cerco_command.specs.Words.{BuildFiles, HaveDifferentNames}
 use Rattle.cerco_base.specs.declared.reasons.Reason.{Reason}
 use Rattle.cerco_base.specs.declared.reasons.Reason.TheVariants as r
+use Rattle.clight_check.specs.Soundness.{HasUnsoundness}
 use Rattle.clight_reader.specs.Reasons.{HasReason}
 use Rattle.cerco_command.specs.PlainPrograms.{IsOtherProgram}
 use Rattle.cerco_command.specs.Answers.{AreWritten, ArePartlyWritten}
-use Rattle.cerco_command.specs.Building.{AreCompiled, outputs, SaysRefused, Builds, PartlyBuilds, IsOutput, BuildMeans}
+use Rattle.cerco_command.specs.Building.{AreCompiled, outputs, HasFirstReason, SaysRefused, Builds, PartlyBuilds, IsOutput, BuildMeans}
 use Rattle.cerco_command.specs.Inputs.{IsRead, CannotRead}
 use Rattle.cerco_command.specs.Messages.{no_file}
 use Rattle.cerco_command.specs.Stages.{IsNameOf, Finishes, BuildsOn}
@@ -91,11 +92,18 @@ whole_reason text all reason e h = by_length (short_or_long text reason h)
         let too_long : 65535 < length all = omega arith in
         subst (HasReason all) (sym long.0) (inl too_long)
 
+whole_unsoundness : (text all : List ℕ) (reason : Reason) → text ≡ take 65536 all → HasUnsoundness text reason → HasUnsoundness all reason
+whole_unsoundness text all reason e h = subst (λ (t : List ℕ). HasUnsoundness t reason) (whole text all e h.1.tokens.source.short) h
+
+whole_first : (text all : List ℕ) (reason : Reason) → text ≡ take 65536 all → HasFirstReason text reason → HasFirstReason all reason
+whole_first text all reason e (inl h) = inl (whole_reason text all reason e h)
+whole_first text all reason e (inr h) = inr (whole_unsoundness text all reason e h)
+
 whole_other : (text all : List ℕ) → text ≡ take 65536 all → IsOtherProgram text → IsOtherProgram all
 whole_other text all e o = subst IsOtherProgram (whole text all e o.is_tree.tokens.source.short) o
 
 whole_refused : (text all line : List ℕ) → text ≡ take 65536 all → SaysRefused text line → SaysRefused all line
-whole_refused text all line e (inl h) = inl (h.0, whole_reason text all h.0 e h.1, h.2)
+whole_refused text all line e (inl h) = inl (h.0, whole_first text all h.0 e h.1, h.2)
 whole_refused text all line e (inr h) = inr (whole_other text all e h.0, h.1)
 
 -- the texts of the source are made, and written or not
@@ -106,7 +114,7 @@ made files source hex map annotated s t status line texts f = record { hex = hex
 
 module _ (files : BuildFiles) (text : List ℕ) (s t u : FilesState) (later : s.faults ≤ t.faults) (read : IsTrue s.known → IsRead 65536 s files.source text) (same : IsTrue s.known → SameFiles s t) (known : IsTrue s.known → IsTrue t.known) where
   source_read : (hex map annotated : List ℕ) → AreCompiled text hex map annotated → (h : IsTrue s.known) → s.file files.source ≡ Some text
-  source_read hex map annotated c h = let r = read h in r.1 ∙ ap Some (sym (whole text r.0 r.2 c.compiled.program.is_tree.tokens.source.short))
+  source_read hex map annotated c h = let r = read h in r.1 ∙ ap Some (sym (whole text r.0 r.2 c.compiled.is_tree.tokens.source.short))
 
   part : (hex map annotated : List ℕ) → AreCompiled text hex map annotated → (IsTrue t.known → ArePartlyWritten (outputs files hex map annotated) t u) → IsTrue s.known → PartlyBuilds files s u
   part hex map annotated a p h =

@@ -14,9 +14,12 @@ use Rattle.cerco_base.specs.Calls.{PutsText}
 use Rattle.cerco_base.specs.declared.faults.IoFault.{IoFault}
 use Rattle.clight_syntax.specs.Annotations.{Costs, annotated, numbers_of}
 use Rattle.clight_syntax.specs.Erasure.{erased, HasNoMarker}
-use Rattle.clight_syntax.specs.Numbers.{numbers}
+use Rattle.clight_syntax.specs.Numbers.{numbers, cost_at}
+use Rattle.sim51.specs.Runs.{object, cycles_of_run}
 use Rattle.clight_syntax.specs.declared.points.Point.{Point}
-use Rattle.cerco_command.specs.PlainPrograms.{Plain, IsPlainProgram, points}
+use Rattle.plain_programs.specs.PlainPrograms.{Plain, points}
+use Rattle.plain_programs.proofs.Headlines.{keeps_to_labelled}
+use Rattle.cerco_command.specs.PlainPrograms.{IsPlainProgram}
 use Rattle.cerco_command.proofs.PlainTrees.{few, are_bytes}
 use Rattle.cerco_command.specs.PortObjects.{write, code, labels, costs}
 use Rattle.cerco_command.specs.Building.{IsCompiled, AreCompiled}
@@ -70,13 +73,22 @@ labels_mean = map_text-means labels (lit≤ tt) small (λ i j before within. abs
 
 pub compiled : (source text : List ℕ) (plain : Plain) (marks : Costs) → IsPlainProgram source plain → text ≡ annotated source (points plain.body) marks → erased text ≡ source → numbers text ≡ flat_map (λ (point : Point). numbers_of (costs plain.values) point.piece) (points plain.body) → IsCompiled source (code plain.values) labels text
 compiled source text plain marks p annotations erases said =
+    let holds = headline_holds (code plain.values) plain.values (stands plain.values (few source plain p)) text (said ∙ ap (λ c. 4 ∷ c ∷ []) (cost_of_body plain.values)) in
+    let kept = keeps_to_labelled (object (code plain.values) labels) cycles_of_run (cost_at text) plain ⊥ source p.tree (record { is_tree = p.is_tree; plain_tree = p.plain_tree }) holds in
+    let has = kept.labelled in
     record {
-      plain = plain;
-      program = p;
-      headline = headline_holds (code plain.values) plain.values (stands plain.values (few source plain p)) text (said ∙ ap (λ c. 4 ∷ c ∷ []) (cost_of_body plain.values));
+      tree = p.tree;
+      is_tree = p.is_tree;
+      laid_out = has.laid;
+      sound = record { names = p.sound.names; typed = has.typed; typing = has.is_typed; layout = has.is_laid };
+      program = kept.program;
+      labelled = has.is_labelled;
+      headline = kept.headline;
       costs = marks;
-      annotations = annotations;
+      annotations = annotations ∙ ap (λ (ps : List Point). annotated source ps marks) (sym kept.annotated);
       erases = erases;
+      plain = plain;
+      plain_tree = p.plain_tree;
     }
 
 -- the texts that are made of a program are those of what it is compiled to

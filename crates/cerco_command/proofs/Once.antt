@@ -26,7 +26,7 @@ use Rattle.cerco_command.specs.declared.status.Status.{Status}
 use Rattle.cerco_command.specs.declared.status.Status.TheVariants.{Done, NoFile, Usage, Refused, FileFault, BadInput, Reserved, NoMemory}
 use Rattle.cerco_command.proofs.RunOnce.{one_stop}
 use Rattle.cerco_command.proofs.ListOnce.{one_listing}
-use Rattle.cerco_command.proofs.OneTree.{plain_or_refused, one_refusal}
+use Rattle.cerco_command.proofs.OneTree.{compiled_or_refused, one_refusal}
 
 -- a text gives one code, or has one first bad line
 one_code : (text c d : List ℕ) → IsHexText text c → IsHexText text d → c ≡ d
@@ -249,7 +249,7 @@ accepted_or_refused files s t u text line p says q =
     let here = p.read in
     let here' = q.read in
     let same : text ≡ p.source = cc in
-    plain_or_refused p.source line p.texts.compiled.plain p.texts.compiled.program (subst (λ (x : List ℕ). SaysRefused x line) same says)
+    compiled_or_refused p.source p.texts.code p.texts.labels p.annotated line p.texts.compiled (subst (λ (x : List ℕ). SaysRefused x line) same says)
 
 -- and it is refused in one way
 refused_once : (files : BuildFiles) (s t u : FilesState) (text other x y : List ℕ) → SaysRefused text x → SaysRefused other y → Refuses files s t text → Refuses files s u other → x ≡ y

@@ -1,4 +1,4 @@
--- A text has one syntax tree at most, or one reason why it has none, and not both.
+-- A text has one syntax tree at most, or one reason why it has none, and not both; and its tree is sound or has one reason.
 use Rattle.std.proofs.Common.{◌≡◌, inl, inr, ℕ, List, length, sym, ap, subst, ◌∙◌}
 use Rattle.cerco_base.specs.declared.reasons.Fault.TheVariants.{Refused}
 use Rattle.cerco_base.specs.declared.reasons.Reason.{Reason}
@@ -10,14 +10,18 @@ use Rattle.clight_syntax.specs.Spelling.{Spells}
 use Rattle.clight_syntax.specs.Symbols.{names_of, terminals_of}
 use Rattle.clight_syntax.specs.Tokens.{Token, Tokenised}
 use Rattle.clight_syntax.specs.Trees.{Item, Program}
+use Rattle.clight_syntax.specs.TypedTrees.{TypedProgram}
+use Rattle.clight_check.specs.Soundness.{IsSound, IsUnsound, HasUnsoundness}
+use Rattle.clight_check.proofs.SoundnessLaws as sound
 use Rattle.clight_tokens.proofs.Unique.{one_list}
 use Rattle.clight_tokens.proofs.OneAnswer as answer
 use Rattle.clight_reader.specs.Reasons.{token_start, HasNoTree, HasReason}
 use Rattle.clight_reader.proofs.Programs.{one_program}
 use Rattle.clight_reader.proofs.OneFault as fault
 use Rattle.clight_reader.proofs.OneNesting.{one_nesting, not_shallow}
-use Rattle.cerco_command.specs.PlainPrograms.{Plain, IsPlainProgram, IsOtherProgram, plain_program}
-use Rattle.cerco_command.specs.Building.{SaysRefused}
+use Rattle.plain_programs.specs.PlainPrograms.{plain_program}
+use Rattle.cerco_command.specs.PlainPrograms.{IsOtherProgram}
+use Rattle.cerco_command.specs.Building.{IsCompiled, HasFirstReason, SaysRefused}
 use Rattle.cerco_command.specs.Refusals.{refused}
 
 abbrev with_parts : List (List ℕ) → List Item → Span → Program
@@ -70,20 +74,40 @@ one_reason text a b (inr h) (inr g) =
     let lists : g.0 ≡ h.0 = one_list g.1.tokens h.1.tokens in
     one_cause (with_length text h.0) a b h.2 (subst (λ (l : List Token). HasNoTree (with_length text l) (Refused b)) lists g.2)
 
+-- ---- soundness
+
+sound_or_unsound : (text : List ℕ) (p : Program) (t : TypedProgram (Unit {0})) (reason : Reason) → IsSourceTree text p → IsSound p t → HasUnsoundness text reason → ⊥
+sound_or_unsound text p t reason is_tree is_sound h =
+    sound.not_both p t reason is_sound (subst (λ (q : Program). IsUnsound q reason) (one_tree text h.0 p h.1 is_tree) h.2)
+
+one_unsoundness : (text : List ℕ) (a b : Reason) → HasUnsoundness text a → HasUnsoundness text b → a ≡ b
+one_unsoundness text a b h g =
+    sound.reason_is_unique h.0 a b h.2 (subst (λ (q : Program). IsUnsound q b) (one_tree text g.0 h.0 g.1 h.1) g.2)
+
+sound_or_reason : (text : List ℕ) (p : Program) (t : TypedProgram (Unit {0})) (reason : Reason) → IsSourceTree text p → IsSound p t → HasFirstReason text reason → ⊥
+sound_or_reason text p t reason is_tree is_sound (inl h) = tree_or_reason text p reason is_tree h
+sound_or_reason text p t reason is_tree is_sound (inr h) = sound_or_unsound text p t reason is_tree is_sound h
+
+one_first : (text : List ℕ) (a b : Reason) → HasFirstReason text a → HasFirstReason text b → a ≡ b
+one_first text a b (inl h) (inl g) = one_reason text a b h g
+one_first text a b (inr h) (inr g) = one_unsoundness text a b h g
+one_first text a b (inl h) (inr g) = absurd (tree_or_reason text g.0 a g.1 h)
+one_first text a b (inr h) (inl g) = absurd (tree_or_reason text h.0 b h.1 g)
+
 -- ---- answers
 
-plain_or_other : (text : List ℕ) (plain : Plain) → IsPlainProgram text plain → IsOtherProgram text → ⊥
-plain_or_other text plain p q =
+compiled_or_other : (text code labels annotated : List ℕ) → IsCompiled text code labels annotated → IsOtherProgram text → ⊥
+compiled_or_other text code labels annotated p q =
     let some = p.plain_tree in
     let none = ap plain_program (one_tree text p.tree q.tree p.is_tree q.is_tree) ∙ q.other in
     cc
 
-pub plain_or_refused : (text line : List ℕ) (plain : Plain) → IsPlainProgram text plain → SaysRefused text line → ⊥
-plain_or_refused text line plain p (inl h) = tree_or_reason text p.tree h.0 p.is_tree h.1
-plain_or_refused text line plain p (inr h) = plain_or_other text plain p h.0
+pub compiled_or_refused : (text code labels annotated line : List ℕ) → IsCompiled text code labels annotated → SaysRefused text line → ⊥
+compiled_or_refused text code labels annotated line p (inl h) = sound_or_reason text p.tree p.laid_out h.0 p.is_tree p.sound h.1
+compiled_or_refused text code labels annotated line p (inr h) = compiled_or_other text code labels annotated p h.0
 
 pub one_refusal : (text a b : List ℕ) → SaysRefused text a → SaysRefused text b → a ≡ b
-one_refusal text a b (inl h) (inl g) = h.2 ∙ (ap refused (one_reason text h.0 g.0 h.1 g.1) ∙ sym g.2)
-one_refusal text a b (inl h) (inr g) = absurd (tree_or_reason text g.0.tree h.0 g.0.is_tree h.1)
-one_refusal text a b (inr h) (inl g) = absurd (tree_or_reason text h.0.tree g.0 h.0.is_tree g.1)
+one_refusal text a b (inl h) (inl g) = h.2 ∙ (ap refused (one_first text h.0 g.0 h.1 g.1) ∙ sym g.2)
+one_refusal text a b (inl h) (inr g) = absurd (sound_or_reason text g.0.tree g.0.laid_out h.0 g.0.is_tree g.0.sound h.1)
+one_refusal text a b (inr h) (inl g) = absurd (sound_or_reason text h.0.tree h.0.laid_out g.0 h.0.is_tree h.0.sound g.1)
 one_refusal text a b (inr h) (inr g) = h.1 ∙ sym g.1

@@ -5,7 +5,7 @@ use Rattle.clight_syntax.specs.declared.symbol.Radix.TheVariants.{Decimal}
 use Rattle.clight_syntax.specs.declared.tree.Specifiers.{Specifiers}
 use Rattle.clight_syntax.specs.declared.tree.Specifiers.TheVariants.{Void, Int}
 use Rattle.clight_syntax.specs.Trees.{Expr, Number, Parenthesis, Stmt, Empty, WritePort, Stmts, NoStmts, Then, NoParameters, Item, FunctionItem}
-use Rattle.cerco_command.specs.PlainPrograms.{Plain, plain_items}
+use Rattle.plain_programs.specs.PlainPrograms.{Plain, plain_items}
 
 abbrev at : Span
 at = record { from = 0; to = 1 }

@@ -12,7 +12,8 @@ use Rattle.clight_syntax.specs.Symbols.{names_of, terminal_of, terminals_of}
 use Rattle.clight_syntax.specs.Tokens.{Token, AreAscending}
 use Rattle.clight_syntax.specs.Trees.{Expr, Variable, Number, Parenthesis, Binary, Prefix, Cast, Index, Select, Stmt, Empty, Block, Assign, ReadPort, WritePort, CallOf, If, IfElse, While, Do, For, Break, Continue, Return, Stmts, NoStmts, Then, Function, Item, StructItem, GlobalItem, PrototypeItem, FunctionItem}
 use Rattle.clight_tokens.proofs.Spans.{ascending_whole}
-use Rattle.cerco_command.specs.PlainPrograms.{plain_value, plain_write, with_value, plain_writes, is_main, is_empty, Plain, with_body, plain_items, IsPlainProgram}
+use Rattle.plain_programs.specs.PlainPrograms.{plain_value, plain_write, with_value, plain_writes, is_main, is_empty, Plain, with_body, plain_items}
+use Rattle.cerco_command.specs.PlainPrograms.{IsPlainProgram}
 
 -- ---- tokens
 

@@ -4,7 +4,7 @@ use Rattle.std.proofs.lemmas.List.{at_drop_more}
 use Rattle.clight_syntax.specs.declared.tree.Stmt.{Stmt}
 use Rattle.clight_syntax.specs.Trees.{Stmts, Then}
 use Rattle.clight_syntax.specs.Views.{stmt_of, stmts_onto}
-use Rattle.cerco_command.specs.PlainPrograms.{plain_write, with_value, plain_writes}
+use Rattle.plain_programs.specs.PlainPrograms.{plain_write, with_value, plain_writes}
 
 -- the values of some statements, and of others behind them
 abbrev pub writes_onto : Option (List ℕ) → List Stmt → Option (List ℕ)

@@ -21,7 +21,7 @@ use Rattle.sim51.specs.Step.{Goes, instr_at, label_at}
 use Rattle.sim51.specs.Runs.{Running, object, cycles_of_run, advanced, passes_label, has_halted}
 use Rattle.sim51.specs.Placed.{Stands}
 use Rattle.sim51.proofs.Steps.{step_goes, step_halts}
-use Rattle.cerco_command.specs.PlainPrograms.{meaning, writes}
+use Rattle.plain_programs.specs.PlainPrograms.{meaning, writes}
 use Rattle.cerco_command.specs.PortObjects.{instructions, write, labels}
 
 no_label : (a : ℕ) → 9 ≤ a → label_at labels a ≡ None
@@ -164,7 +164,7 @@ module _ (code : List ℕ) where
           let a = start_is in let b = main_is in
           omega arith
 
-      pub headline_holds : Headline (meaning values) (object code labels) cycles_of_run (cost_at text)
+      pub headline_holds : Headline (meaning {Fault = ⊥} values) (object code labels) cycles_of_run (cost_at text)
       headline_holds script ok zero =
           let k = steps_of (object code labels) (to_main script) in
           let cost : cost_at text [] ≡ 4 = (let a = start_is in omega arith) in

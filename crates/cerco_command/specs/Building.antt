@@ -2,11 +2,16 @@
 -- deliverable 2.1.)
 use Rattle.std.specs.Prelude.{◌≡◌, ℕ, List, [], ◌∷◌, Some, None, IsTrue, ◌⊎◌, false, bytes_eq}
 use Rattle.cerco_base.specs.Causes.{Rose}
+use Rattle.cerco_base.specs.declared.events.Label.{Label}
 use Rattle.cerco_base.specs.States.{FilesState, SameFiles}
 use Rattle.cerco_base.specs.Headline.{Headline}
 use Rattle.clight_syntax.specs.Annotations.{Costs}
 use Rattle.clight_syntax.specs.Annotations.{annotated as annotated_text}
 use Rattle.clight_syntax.specs.Erasure.{erased}
+use Rattle.clight_syntax.specs.Labelling.{points_of, IsLabelled}
+use Rattle.clight_syntax.specs.SourceTrees.{IsSourceTree}
+use Rattle.clight_syntax.specs.Trees.{Program}
+use Rattle.clight_syntax.specs.TypedTrees.{TypedProgram}
 use Rattle.clight_syntax.specs.Numbers.{cost_at}
 use Rattle.object_hex.specs.HexMeaning.{IsHexText}
 use Rattle.object_hex.specs.MapMeaning.{IsMapText}
@@ -14,24 +19,34 @@ use Rattle.sim51.specs.Runs.{object, cycles_of_run}
 use Rattle.cerco_command.specs.Words.{BuildFiles}
 use Rattle.cerco_base.specs.declared.reasons.Reason.{Reason}
 use Rattle.clight_reader.specs.Reasons.{HasReason}
-use Rattle.cerco_command.specs.PlainPrograms.{Plain, IsPlainProgram, IsOtherProgram, points, meaning}
+use Rattle.clight_check.specs.Soundness.{IsSound, HasUnsoundness}
+use Rattle.clight_meaning.specs.Meaning.{source as meaning}
+use Rattle.plain_programs.specs.PlainPrograms.{Plain, plain_program}
+use Rattle.cerco_command.specs.PlainPrograms.{IsOtherProgram}
 use Rattle.cerco_command.specs.Refusals.{refused}
 use Rattle.cerco_command.specs.Answers.{NamedText, ArePartlyWritten}
 use Rattle.cerco_command.specs.Messages.{no_file, unsupported, file_fault}
 use Rattle.cerco_command.specs.declared.status.Status.{Status}
 use Rattle.cerco_command.specs.declared.status.Status.TheVariants.{Done, NoFile, Refused, FileFault, NoMemory}
 
--- The headline. The source is a program, and the object does what the program means: for every port script and number n, after
--- exactly as many cycles as the cost variable of the annotated source holds at its n-th stop, it has made exactly the labels,
--- port readings and port writings of the meaning, and has ended exactly if the meaning has. The annotated source is the source with
--- its annotations at their places; without them it is the source.
+-- The headline. The source is a sound program, and the object does what the program means with its cost labels: for every port script
+-- and number n, after exactly as many cycles as the cost variable of the annotated source holds at its n-th stop, it has made exactly
+-- the labels, port readings and port writings of the meaning, and has ended exactly if the meaning has; where the meaning is a fault,
+-- it has at some time made those before it. The annotated source is the source with the annotations of the labels at their places;
+-- without them it is the source. So far the program is a plain one.
 pub record IsCompiled (source code labels annotated : List ℕ) : Type 0 where
-  pub plain : Plain
-  pub program : IsPlainProgram source plain
-  pub headline : Headline (meaning plain.values) (object code labels) cycles_of_run (cost_at annotated)
+  pub tree : Program
+  pub is_tree : IsSourceTree source tree
+  pub laid_out : TypedProgram (Unit {0})
+  pub sound : IsSound tree laid_out
+  pub program : TypedProgram Label
+  pub labelled : IsLabelled laid_out program
+  pub headline : Headline (meaning program) (object code labels) cycles_of_run (cost_at annotated)
   pub costs : Costs
-  pub annotations : annotated ≡ annotated_text source (points plain.body) costs
+  pub annotations : annotated ≡ annotated_text source (points_of program) costs
   pub erases : erased annotated ≡ source
+  pub plain : Plain
+  pub plain_tree : plain_program tree ≡ Some plain
 
 -- The texts of an object to which the source is compiled: its code, the addresses of its labels, and the annotated source.
 pub record AreCompiled (source hex map annotated : List ℕ) : Type 0 where
@@ -68,10 +83,14 @@ pub record PartlyBuilds (files : BuildFiles) (s t : FilesState) : Type 0 where
   pub texts : AreCompiled source hex map annotated
   pub written : ArePartlyWritten (outputs files hex map annotated) s t
 
--- The line names the first reason for which the source has no syntax tree; or it has one, which isn't compiled yet.
+-- the first of the reasons 1 to 11 that a text has: why it has no syntax tree, or why its tree is unsound
+abbrev pub HasFirstReason : List ℕ → Reason → Type 0
+HasFirstReason text reason = HasReason text reason ⊎ HasUnsoundness text reason
+
+-- The line names the first reason of the source; or it has none, and isn't compiled yet.
 abbrev pub SaysRefused : List ℕ → List ℕ → Type 0
 SaysRefused source line =
-    ((reason : Reason) × HasReason source reason × (line ≡ refused reason)) ⊎ (IsOtherProgram source × (line ≡ unsupported))
+    ((reason : Reason) × HasFirstReason source reason × (line ≡ refused reason)) ⊎ (IsOtherProgram source × (line ≡ unsupported))
 
 -- the source is what stands under its name, and no file has changed
 pub record Refuses (files : BuildFiles) (s t : FilesState) (source : List ℕ) : Type 0 where

@@ -1,7 +1,9 @@
--- The stages of the commands: what a reply is, how `build` compiles a source and writes the outputs, and how a text is put by
--- pieces. (The compiler's own.)
+-- The stages of the commands: what a reply is, how `build` reads a source, compiles it and writes the outputs, and how a text is put
+-- by pieces. (The compiler's own.)
 use Rattle.std.specs.Prelude.{◌≡◌, ℕ, ◌+◌, ◌<◌, length, ◌≤◌, List, [], ◌∷◌, ◌++◌, Option, Some, None, Result, OnOk, OnErr, IfErr, IsTrue, string_bytes, ◌⊎◌}
 use Rattle.cerco_base.specs.Causes.{Rose}
+use Rattle.cerco_base.specs.declared.reasons.Fault.{Fault}
+use Rattle.cerco_base.specs.declared.reasons.Fault.TheVariants as f
 use Rattle.cerco_base.specs.States.{FilesState, SinkState, SameFiles}
 use Rattle.cerco_base.specs.Calls.{Keeps, Adds}
 use Rattle.mcs51_isa.specs.declared.instr.Instr.{Instr}
@@ -14,7 +16,9 @@ use Rattle.sim51.specs.Places.{LoadedMachine}
 use Rattle.sim51.specs.Runs.{events_of}
 use Rattle.cerco_command.specs.Words.{BuildFiles}
 use Rattle.cerco_command.specs.Answers.{NamedText, AreWritten, ArePartlyWritten}
-use Rattle.cerco_command.specs.Building.{AreCompiled, SaysRefused, outputs}
+use Rattle.cerco_command.specs.Building.{AreCompiled, HasFirstReason, SaysRefused, outputs}
+use Rattle.plain_programs.specs.PlainPrograms.{Plain}
+use Rattle.cerco_command.specs.PlainPrograms.{IsPlainProgram, IsOtherProgram}
 use Rattle.cerco_command.specs.Messages.{file_fault, event_lines, reserved_line}
 use Rattle.cerco_command.specs.Running.{Stops}
 use Rattle.cerco_command.specs.Disassembly.{listed_at}
@@ -25,6 +29,16 @@ use Rattle.cerco_command.specs.declared.status.Status.TheVariants.{Done, Refused
 -- a reply with this status and line, or want of memory
 abbrev pub Replies : Status → List ℕ → Status → List ℕ → Type 0
 Replies meant text status line = ((status ≡ meant) × (line ≡ text)) ⊎ ((status ≡ NoMemory) × (line ≡ []))
+
+-- the program of port writes that a sound text is, if it is one
+abbrev pub IsProgram : List ℕ → Option Plain → Type 0
+IsProgram text (Some plain) = IsPlainProgram text plain
+IsProgram text None = IsOtherProgram text
+
+-- why a text is no sound program. Of want of memory nothing is said
+abbrev pub IsNoProgram : List ℕ → Fault → Type 0
+IsNoProgram text f.OutOfMemory = Unit {0}
+IsNoProgram text (f.Refused reason) = HasFirstReason text reason
 
 -- one of the names of these texts
 abbrev pub IsNameOf : List ℕ → List NamedText → Type 0

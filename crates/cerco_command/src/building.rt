@@ -1,16 +1,17 @@
 //! The command `build`.
-ghost use Rattle.std.specs.Prelude.{◌≡◌, ◌∷◌, [], IfOk, IfErr, string_bytes};
+ghost use Rattle.std.specs.Prelude.{◌≡◌, ◌∷◌, [], IfOk, IfErr, option_map, string_bytes};
 ghost use Rattle.cerco_base.specs.Memory.{sound_sink_state};
 ghost use Rattle.clight_syntax.specs.Annotations.{Costs};
 ghost use Rattle.clight_syntax.specs.Annotations.{annotated as annotated_text};
 ghost use Rattle.clight_reader.specs.Reasons.{IsNotRead};
 ghost use Rattle.clight_syntax.specs.SourceTrees.{IsSourceTree};
 ghost use Rattle.clight_syntax.specs.Views.{program_of};
-ghost use Rattle.cerco_command.specs.PlainPrograms.{IsPlainProgram, points};
+ghost use Rattle.plain_programs.specs.PlainPrograms.{points};
+ghost use Rattle.cerco_command.specs.PlainPrograms.{IsPlainProgram};
 ghost use Rattle.cerco_command.specs.PlainViews.{plain_of};
 ghost use Rattle.cerco_command.specs.Words.{files_of, HaveDifferentNames};
 ghost use Rattle.cerco_command.specs.Building.{AreCompiled, outputs, BuildMeans};
-ghost use Rattle.cerco_command.specs.Stages.{WritesAll, Finishes, BuildsOn};
+ghost use Rattle.cerco_command.specs.Stages.{IsProgram, IsNoProgram, WritesAll, Finishes, BuildsOn};
 
 use crate::inputs::read_input;
 use crate::plain_program::{PlainProgram, plain_program};
@@ -21,6 +22,7 @@ use crate::status::Status;
 use crate::words::BuildNames;
 use annotate::annotate;
 use cerco_base::{Fault, Files, IoFault, Label, NoMemory, SoundSink, write_file};
+use clight_check::check;
 use clight_reader::parse;
 use clight_syntax::{Piece, Point, Points, Program};
 use clight_tokens::tokens;
@@ -133,23 +135,29 @@ fn read_tree(alloc: Global, source: &[u8]) -> Result<Program, Fault>
     parse(alloc, &list)
 }
 
-// Builds a program that was read.
-fn build_tree<F: Files>(
+// The program of port writes that a source is, `None` where it is sound and no such program; or the first reason why it isn't sound.
+fn read_program(alloc: Global, source: &[u8]) -> Result<Option<PlainProgram>, Fault>
+    ensures program { IfOk result (λ found. IsProgram source.now (option_map plain_of found)) }
+    ensures fault { IfErr result (IsNoProgram source.now) }
+{
+    let tree = read_tree(alloc, source)?;
+    let program = plain_program(alloc, &tree)?;
+    check(alloc, tree)?;
+    Ok(program)
+}
+
+// Builds a program of port writes.
+fn build_program<F: Files>(
     alloc: Global,
     names: &BuildNames,
     source: &[u8],
-    tree: &Program,
+    program: &PlainProgram,
     files: &mut F,
 ) -> Reply
-    requires { IsSourceTree source.now (program_of tree.now) }
+    requires { IsPlainProgram source.now (plain_of program.now) }
     ensures { BuildsOn (files_of names.now) source.now (F.state files.old) (F.state files.new) result.status (string_bytes result.line) }
 {
-    let program = match plain_program(alloc, tree) {
-        Ok(Some(program)) => program,
-        Ok(None) => return unsupported(alloc),
-        Err(_) => return silent(alloc, Status::NoMemory),
-    };
-    match make_texts(alloc, source, &program) {
+    match make_texts(alloc, source, program) {
         Ok(texts) => finish(alloc, files, names, &texts),
         Err(_) => silent(alloc, Status::NoMemory),
     }
@@ -159,15 +167,17 @@ fn build_tree<F: Files>(
 fn build_on<F: Files>(alloc: Global, names: &BuildNames, source: &[u8], files: &mut F) -> Reply
     ensures { BuildsOn (files_of names.now) source.now (F.state files.old) (F.state files.new) result.status (string_bytes result.line) }
 {
-    match read_tree(alloc, source) {
-        Ok(tree) => build_tree(alloc, names, source, &tree, files),
+    match read_program(alloc, source) {
+        Ok(Some(program)) => build_program(alloc, names, source, &program, files),
+        Ok(None) => unsupported(alloc),
         Err(Fault::Refused(reason)) => refused(alloc, reason),
         Err(Fault::OutOfMemory) => silent(alloc, Status::NoMemory),
     }
 }
 
 /// Compiles a source of at most 65,535 bytes, and writes the object, its labels and the annotated source. A source is refused
-/// for the first reason why it has no syntax tree, and so far also where the tree does more than write numbers to port 1.
+/// for the first reason why it has no syntax tree or its tree isn't sound, and so far also where it does more than write numbers to
+/// port 1.
 pub fn build<F: Files>(alloc: Global, names: &BuildNames, files: &mut F) -> Reply
     requires { HaveDifferentNames (files_of names.now) }
     ensures { BuildMeans (files_of names.now) (F.state files.old) (F.state files.new) result.status (string_bytes result.line) }

@@ -1,7 +1,7 @@
 //! The programs that do nothing but write numbers to port 1.
 ghost use Rattle.std.specs.Prelude.{◌≡◌, option_map, IfOk};
 ghost use Rattle.clight_syntax.specs.Views.{expr_of, stmt_of, stmts_of, declared_of, header_of, function_of, program_of};
-ghost use Rattle.cerco_command.specs.PlainPrograms as s;
+ghost use Rattle.plain_programs.specs.PlainPrograms as s;
 ghost use Rattle.cerco_command.specs.PlainViews.{plain_of};
 
 use cerco_base::NoMemory;

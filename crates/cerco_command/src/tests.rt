@@ -265,10 +265,26 @@ fn other_sources_are_refused(rt: HostRuntime) -> Result<(), Fail> {
         ("void main(void){P1=+5;}", "refused 5 syntax at 19\n"),
         ("void main(void){", "refused 5 syntax at 16\n"),
         ("void main(void){}}", "refused 5 syntax at 17\n"),
-        ("", "refused 0 unsupported\n"),
+        ("", "refused 7 name main at 0\n"),
+        ("void f(void){}", "refused 7 name main at 14\n"),
+        (
+            "void main(void){break;x=1;}",
+            "refused 7 name unknown at 22\n",
+        ),
+        (
+            "void f(void){f();}void main(void){P1=1<<16;}",
+            "refused 8 type shift at 38\n",
+        ),
+        (
+            "char t[65534];char u;void f(void){f();}void main(void){}",
+            "refused 9 recursion at 26\n",
+        ),
+        (
+            "char t[65534];char u;void main(void){}",
+            "refused 11 data 65535\n",
+        ),
         ("void main(void){P1=256;}", "refused 0 unsupported\n"),
         ("void main(void){int x;}", "refused 0 unsupported\n"),
-        ("void f(void){}", "refused 0 unsupported\n"),
         ("void main(void){}int x;", "refused 0 unsupported\n"),
     ] {
         see_refused(&rt, alloc, text.as_bytes(), line)?;
