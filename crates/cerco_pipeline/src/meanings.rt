@@ -130,7 +130,10 @@ fn told(alloc: Global, text: &str, script: &[u8], labels: u64) -> Result<String,
     let program = labelled(alloc, text.as_bytes())?;
     let mut evaluator = Evaluator::new(alloc, &program, script)?;
     let mut words = String::new(alloc);
-    while evaluator.labels() < labels {
+    for _ in 0..5000 {
+        if evaluator.labels() >= labels {
+            return Ok(words);
+        }
         match evaluator.next()? {
             Turn::Event(Event::Label(label)) => {
                 words.push_str(&format!(in alloc; "L{} ", label.0)?)?;
