@@ -6,9 +6,9 @@ ghost use Rattle.clight_parts.specs.Machine.{next};
 ghost use Rattle.clight_parts.specs.Views.{forms, mode_of};
 
 use cerco_base::NoMemory;
+use clight_binding::expressions::{in_cast, member_name, operand, tag_of_cast};
 use clight_declarations::declarations::in_declaration;
 use clight_parts::forms::{Form, Mode};
-use clight_binding::expressions::{in_cast, member_name, operand, tag_of_cast};
 use clight_statements::marks::behind;
 use clight_statements::statements::in_statement;
 use clight_syntax::symbol::Terminal;
