@@ -1,14 +1,4 @@
-pub mod Causes
-pub mod States
-pub mod Calls
-pub mod WholeFiles
-pub mod Store
-pub mod Memory
-pub mod Host
+pub mod Outside
 pub mod Events
-pub mod Systems
-pub mod Preservation
-pub mod Headline
-pub mod LabelledGraphs
 pub mod CallOrder
-pub mod CallOrderView
+pub mod Code
