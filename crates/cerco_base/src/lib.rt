@@ -5,6 +5,7 @@
 
 pub mod call_order;
 pub mod events;
+pub mod limits;
 pub mod no_memory;
 pub mod object;
 pub mod outside;

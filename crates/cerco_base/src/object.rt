@@ -38,6 +38,15 @@ impl Code {
         Ok(())
     }
 
+    /// Adds bytes at the end, in their order. When out of memory the code is unchanged.
+    pub fn push_all(&mut self, bytes: &[u8]) -> Result<(), NoMemory>
+        ensures added { OnOk result (self.new ≡ self.old ++ bytes.now) }
+        ensures same { OnErr result (self.new ≡ self.old) }
+    {
+        self.bytes.extend_from_slice(bytes)?;
+        Ok(())
+    }
+
     /// Its bytes.
     pub fn as_slice(&self) -> &[u8]
         ensures { result.now ≡ self.now }

@@ -7,8 +7,8 @@ ghost use Rattle.cerco_base.specs.declared.outside.faults.ReadFault.TheVariants 
 
 use crate::no_memory::NoMemory;
 use crate::outside::faults::{IoFault, ReadFault};
-use crate::outside::traits::{Files, Sink};
 use crate::outside::file_store::Store;
+use crate::outside::traits::{Files, Sink};
 use std::alloc::Global;
 
 /// Files in memory. The calls of [`Files`] are numbered from 0, and those that [`MemoryFiles::fail`] lists fail.

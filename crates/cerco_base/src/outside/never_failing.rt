@@ -3,8 +3,8 @@ ghost use Rattle.std.specs.Prelude.{◌≡◌, option_map, OnOk, OnErr, None, Li
 
 use crate::no_memory::NoMemory;
 use crate::outside::faults::{IoFault, ReadFault};
-use crate::outside::traits::{Files, Sink};
 use crate::outside::file_store::Store;
+use crate::outside::traits::{Files, Sink};
 use std::alloc::Global;
 
 /// Files in memory that never fail: their count of faults is always 0.

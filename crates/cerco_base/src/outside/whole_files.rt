@@ -1,15 +1,15 @@
 //! Whole texts in and out.
-ghost use Rattle.std.specs.Prelude.{◌≡◌, ◌<◌};
+ghost use Rattle.std.specs.Prelude.{◌≡◌, ◌<◌, IfOk, length};
 ghost use Rattle.cerco_base.specs.Outside.IoCalls.{PutsText};
 ghost use Rattle.cerco_base.specs.Outside.WholeFiles.{WritesFile, ReadsWhole, items_of};
 
 use crate::outside::faults::{IoFault, ReadFault};
 use crate::outside::file_sink::FileSink;
 use crate::outside::traits::{Files, Sink};
-use std::alloc::Global;
+use std::alloc::{AllocError, Global};
 
 // How many bytes are read at a time.
-const PIECE: usize = 512;
+const PIECE: usize = 65_536;
 
 /// Puts all bytes. On a fault a prefix of them was put.
 pub fn put_all<O: Sink>(out: &mut O, bytes: &[u8]) -> Result<(), IoFault>
@@ -32,6 +32,38 @@ pub fn write_file<F: Files>(files: &mut F, name: &str, text: &[u8]) -> Result<()
     put_all(&mut out, text)
 }
 
+// So many zeros, which a reading fills.
+fn zeros(alloc: Global, count: usize) -> Result<Vec<u8>, AllocError>
+    ensures { IfOk result (λ bytes. length bytes.items ≡ count) }
+{
+    let bytes = vec![in alloc; 0u8; count]?;
+    Ok(bytes)
+}
+
+// Reads a file to its end, or to its first `limit` bytes, by pieces of the size of `piece`.
+fn read_pieces<F: Files>(
+    alloc: Global,
+    files: &mut F,
+    name: &str,
+    limit: usize,
+    piece: &mut [u8],
+) -> Result<Vec<u8>, ReadFault>
+    requires limit { 0 < limit }
+    requires piece { 0 < length piece.old }
+    ensures { ReadsWhole (F.state files.old) (F.state files.new) name.now limit (items_of result) }
+{
+    let mut bytes = Vec::new(alloc);
+    while bytes.len() < limit {
+        let room = (limit - bytes.len()).min(piece.len());
+        let count = files.read_at(name, bytes.len() as u64, &mut piece[..room])?;
+        if count == 0 {
+            return Ok(bytes);
+        }
+        bytes.extend_from_slice(&piece[..count])?;
+    }
+    Ok(bytes)
+}
+
 /// The bytes of a file to its end, or its first `limit` bytes.
 pub fn read_whole<F: Files>(
     alloc: Global,
@@ -42,15 +74,6 @@ pub fn read_whole<F: Files>(
     requires { 0 < limit }
     ensures { ReadsWhole (F.state files.old) (F.state files.new) name.now limit (items_of result) }
 {
-    let mut bytes = Vec::new(alloc);
-    let mut piece = [0; PIECE];
-    while bytes.len() < limit {
-        let room = (limit - bytes.len()).min(PIECE);
-        let count = files.read_at(name, bytes.len() as u64, &mut piece[..room])?;
-        if count == 0 {
-            return Ok(bytes);
-        }
-        bytes.extend_from_slice(&piece[..count])?;
-    }
-    Ok(bytes)
+    let mut piece = zeros(alloc, PIECE)?;
+    read_pieces(alloc, files, name, limit, piece.as_mut_slice())
 }
