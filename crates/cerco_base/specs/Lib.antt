@@ -12,3 +12,6 @@ pub mod Headline
 pub mod LabelledGraphs
 pub mod CallOrder
 pub mod CallOrderView
+pub mod Bytes
+pub mod HexDigits
+pub mod Ports
