@@ -1,2 +1,6 @@
 mod PieceTexts
 mod Progress
+pub mod Cutting
+pub mod DecimalTexts
+pub mod AnnotatedText
+mod Examples

@@ -1,14 +1,14 @@
 -- The source is put point by point.
 use Rattle.std.proofs.Common.{◌≡◌, ℕ, ◌+◌, ◌-◌, ◌<◌, ◌≤◌, List, ◌∷◌, ◌++◌, length, take, drop, get_or, Result, Ok, ap, subst, ◌∙◌, drop-drop, arith}
 use Rattle.std.proofs.lemmas.List.{drop_more, drop_all, take_rest}
-use Rattle.cerco_base.specs.States.{SinkState}
-use Rattle.cerco_base.specs.Calls.{PutsText}
+use Rattle.cerco_base.specs.Outside.IoStates.{SinkState}
+use Rattle.cerco_base.specs.Outside.IoCalls.{PutsText}
 use Rattle.cerco_base.proofs.Putting.{SoFar}
 use Rattle.cerco_base.proofs.PuttingPieces.{begun_as, piece_put, last_put}
-use Rattle.cerco_base.specs.declared.faults.IoFault.{IoFault}
+use Rattle.cerco_base.specs.declared.outside.faults.IoFault.{IoFault}
 use Rattle.clight_syntax.specs.declared.points.Point.{Point}
 use Rattle.clight_syntax.specs.Annotations.{Costs, annotated, piece_text, AreInOrderFrom, AreInOrder}
-use Rattle.clight_syntax.proofs.AnnotatedText.{annotated_from, annotated-whole, within_size}
+use Rattle.annotate.proofs.AnnotatedText.{annotated_from, annotated-whole, within_size}
 
 -- the annotated text is put up to a byte of the source and a point
 pub record IsPutUpTo (s t : SinkState) (source : List ℕ) (points : List Point) (costs : Costs) (index from : ℕ) : Type 0 where

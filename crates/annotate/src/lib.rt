@@ -3,10 +3,11 @@
 
 ghost use Rattle.std.specs.Prelude.{◌≡◌, ◌<◌, ◌++◌, ◌∷◌, length, slice_index, decimal, codes};
 ghost use Rattle.std.specs.List.{flat_map};
-ghost use Rattle.cerco_base.specs.Calls.{PutsText};
+ghost use Rattle.cerco_base.specs.Outside.IoCalls.{PutsText};
 ghost use Rattle.clight_syntax.specs.Annotations.{annotated, around, piece_text, AreInOrder, HasLabelsBelow, HaveLabelsBelow, labels_in, AreNumberedInOrder, BeginWithStart, numbers_of};
-ghost use Rattle.clight_syntax.specs.Erasure.{erased, HasNoMarker};
-ghost use Rattle.clight_syntax.specs.Numbers.{numbers};
+ghost use Rattle.annotate.specs.Erasure.{erased};
+ghost use Rattle.clight_source.specs.Markers.{HasNoMarker};
+ghost use Rattle.annotate.specs.Numbers.{numbers};
 
 use cerco_base::{IoFault, Label, Sink, put_all};
 use clight_syntax::{Piece, Point, Points};

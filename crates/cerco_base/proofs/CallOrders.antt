@@ -5,7 +5,7 @@ use Rattle.std.proofs.lemmas.List.{map-append, take-append-le, length-map, get_o
 use Rattle.std.proofs.Math.Seq.{get_or-append_seam, take-append_seam}
 use Rattle.cerco_base.specs.declared.call_order.Entry.{Entry}
 use Rattle.cerco_base.specs.CallOrder.{Called, functions_of, callers_at, IsCallOrder}
-use Rattle.cerco_base.specs.CallOrderView.{called, IsInOrder}
+use Rattle.cerco_base.specs.Code.CallOrderView.{called, IsInOrder}
 
 -- what holds of each place of a list and of the place behind it holds of the longer one's
 each_place : (P : ℕ → Type 0) (l : List Called) (c : Called) → ((i : ℕ) → i < length l → P i) → P (length l) → (i : ℕ) → i < length (l ++ c ∷ []) → P i

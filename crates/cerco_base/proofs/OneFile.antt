@@ -1,8 +1,8 @@
 -- The output over one file.
 use Rattle.std.proofs.Common.{◌≡◌, ℕ, List, [], ◌++◌, take, Bool, true, false, Option, Some, None, is_some, unwrap_or, bytes_eq, ◌&&◌, cond, Result, Ok, Err, IsTrue, refl, ap}
-use Rattle.cerco_base.specs.States.{FilesState, bytes_at, file_sink_state}
-use Rattle.cerco_base.specs.Calls.{AppendsSome, PutsSome}
-use Rattle.cerco_base.specs.declared.faults.IoFault.{IoFault}
+use Rattle.cerco_base.specs.Outside.IoStates.{FilesState, bytes_at, file_sink_state}
+use Rattle.cerco_base.specs.Outside.IoCalls.{AppendsSome, PutsSome}
+use Rattle.cerco_base.specs.declared.outside.faults.IoFault.{IoFault}
 
 not_both : IsTrue false → ⊥
 not_both h = cc

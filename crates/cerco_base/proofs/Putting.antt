@@ -1,10 +1,10 @@
 -- Texts that are put piece by piece.
 use Rattle.std.proofs.Common.{◌≡◌, ℕ, ◌+◌, ◌<◌, ◌≤◌, List, [], ◌++◌, length, take, drop, Result, Ok, Err, refl, sym, ap, subst, ◌∙◌, arith, append_assoc, append-nil, take-append-drop}
 use Rattle.std.proofs.lemmas.List.{length-append}
-use Rattle.cerco_base.specs.Causes.{Rose}
-use Rattle.cerco_base.specs.States.{SinkState}
-use Rattle.cerco_base.specs.Calls.{Keeps, PutsSome, PutsText, Adds}
-use Rattle.cerco_base.specs.declared.faults.IoFault.{IoFault}
+use Rattle.cerco_base.specs.Outside.IoFaults.{Rose}
+use Rattle.cerco_base.specs.Outside.IoStates.{SinkState}
+use Rattle.cerco_base.specs.Outside.IoCalls.{Keeps, PutsSome, PutsText, Adds}
+use Rattle.cerco_base.specs.declared.outside.faults.IoFault.{IoFault}
 
 pub rose_since : (a b c : ℕ) → a ≤ b → Rose b c → Rose a c
 rose_since a b c h r = omega arith

@@ -1,12 +1,12 @@
 -- A file that is read piece by piece.
 use Rattle.std.proofs.Common.{◌≡◌, ℕ, ◌+◌, ◌<◌, ◌≤◌, List, [], ◌++◌, length, take, drop, Option, Some, Ok, Err, IsTrue, refl, sym, ap, subst, ◌∙◌, arith, take_all, take-add}
 use Rattle.std.proofs.lemmas.List.{length-take-le, length-append}
-use Rattle.cerco_base.specs.States.{FilesState, SameFiles}
-use Rattle.cerco_base.specs.Calls.{ReadsAt}
-use Rattle.cerco_base.specs.WholeFiles.{ReadsWhole}
+use Rattle.cerco_base.specs.Outside.IoStates.{FilesState, SameFiles}
+use Rattle.cerco_base.specs.Outside.IoCalls.{ReadsAt}
+use Rattle.cerco_base.specs.Outside.WholeFiles.{ReadsWhole}
 use Rattle.cerco_base.proofs.Putting.{rose_since}
-use Rattle.cerco_base.specs.declared.faults.ReadFault.{ReadFault}
-use Rattle.cerco_base.specs.declared.faults.ReadFault.TheVariants as Read
+use Rattle.cerco_base.specs.declared.outside.faults.ReadFault.{ReadFault}
+use Rattle.cerco_base.specs.declared.outside.faults.ReadFault.TheVariants as Read
 
 pub record ReadSoFar (s t : FilesState) (name : List ℕ) (limit : ℕ) (bytes : List ℕ) : Type 0 where
   pub later : s.faults ≤ t.faults

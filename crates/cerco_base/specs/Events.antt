@@ -9,11 +9,11 @@ abbrev pub label : ℕ → Event
 label n = Label (record { 0 = n })
 
 -- how many labels these events pass
-abbrev pub labels_in : List Event → ℕ
-labels_in [] = 0
-labels_in (Label l ∷ es) = 1 + labels_in es
-labels_in (Read port byte ∷ es) = labels_in es
-labels_in (Write port byte ∷ es) = labels_in es
+abbrev pub label_count : List Event → ℕ
+label_count [] = 0
+label_count (Label l ∷ es) = 1 + label_count es
+label_count (Read port byte ∷ es) = label_count es
+label_count (Write port byte ∷ es) = label_count es
 
 -- fs begins with es
 pub record IsPrefix (es fs : List Event) : Type 0 where

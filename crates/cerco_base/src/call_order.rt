@@ -1,8 +1,8 @@
 //! The functions of a program in the order of its calls.
 ghost use Rattle.std.specs.Prelude.{◌≡◌, ◌<◌, ◌++◌, ◌∷◌, [], length, map, All, Contains, IfOk, OnOk, OnErr};
-ghost use Rattle.cerco_base.specs.CallOrderView.{called};
+ghost use Rattle.cerco_base.specs.Code.CallOrderView.{called};
 
-use crate::faults::NoMemory;
+use crate::no_memory::NoMemory;
 use std::alloc::Global;
 use std::marker::Model;
 
@@ -50,7 +50,7 @@ impl Model for CallOrder {
 
     ghost Value = { List Called };
 
-    ghost use Rattle.cerco_base.specs.CallOrderView.{called, IsInOrder};
+    ghost use Rattle.cerco_base.specs.Code.CallOrderView.{called, IsInOrder};
 
     ghost view = { λ o. map called o.entries.items };
 

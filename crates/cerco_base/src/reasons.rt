@@ -2,7 +2,7 @@
 ghost use Rattle.std.specs.Prelude.{◌≡◌};
 ghost use Rattle.cerco_base.specs.declared.reasons.Fault.TheVariants as Fault;
 
-use crate::faults::NoMemory;
+use crate::no_memory::NoMemory;
 use std::alloc::{AllocError, AllocFailed};
 use thiserror::Error;
 

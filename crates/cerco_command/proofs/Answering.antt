@@ -1,9 +1,9 @@
 -- What is answered where a text is put, whole or by pieces.
 use Rattle.std.proofs.Common.{◌≡◌, ℕ, ◌+◌, ◌<◌, ◌≤◌, ◌⊎◌, List, [], ◌++◌, length, Err, refl, sym, ap, subst, ◌∙◌, arith, inl, inr, append_assoc, append-nil, length-append}
-use Rattle.cerco_base.specs.States.{SinkState}
-use Rattle.cerco_base.specs.Calls.{Adds, AddsPrefix, PutsText}
-use Rattle.cerco_base.specs.declared.faults.IoFault.{IoFault}
-use Rattle.cerco_base.specs.declared.faults.IoFault.TheVariants as Io
+use Rattle.cerco_base.specs.Outside.IoStates.{SinkState}
+use Rattle.cerco_base.specs.Outside.IoCalls.{Adds, AddsPrefix, PutsText}
+use Rattle.cerco_base.specs.declared.outside.faults.IoFault.{IoFault}
+use Rattle.cerco_base.specs.declared.outside.faults.IoFault.TheVariants as Io
 use Rattle.cerco_base.proofs.Putting.{SoFar, keeps_on, adds_on, keeps_same, rose_since}
 use Rattle.cerco_command.specs.Answers.{FellShort, Says, Answers}
 use Rattle.cerco_command.specs.Stages.{PutsFront}

@@ -3,7 +3,7 @@ use Rattle.std.proofs.Common.{◌≡◌, ℕ, ◌<◌, ◌≤◌, List, [], ◌�
 use Rattle.std.proofs.lemmas.Bool.{true≢false}
 use Rattle.std.proofs.lemmas.Slice.Eq.{bytes_eq-Decides}
 use Rattle.std.proofs.lemmas.List.{length-take}
-use Rattle.cerco_base.specs.States.{FilesState, SameFiles}
+use Rattle.cerco_base.specs.Outside.IoStates.{FilesState, SameFiles}
 use Rattle.cerco_base.proofs.Putting.{rose_since}
 use Rattle.cerco_command.specs.Words.{BuildFiles, HaveDifferentNames}
 use Rattle.cerco_base.specs.declared.reasons.Reason.{Reason}

@@ -9,12 +9,13 @@ use Rattle.object_hex.specs.MapMeaning.{IsMapText}
 use Rattle.object_hex.proofs.HexBack.{hex_text-means}
 use Rattle.object_hex.proofs.MapBack.{map_text-means}
 use Rattle.std.specs.List.{flat_map}
-use Rattle.cerco_base.specs.States.{SinkState}
-use Rattle.cerco_base.specs.Calls.{PutsText}
-use Rattle.cerco_base.specs.declared.faults.IoFault.{IoFault}
+use Rattle.cerco_base.specs.Outside.IoStates.{SinkState}
+use Rattle.cerco_base.specs.Outside.IoCalls.{PutsText}
+use Rattle.cerco_base.specs.declared.outside.faults.IoFault.{IoFault}
 use Rattle.clight_syntax.specs.Annotations.{Costs, annotated, numbers_of}
-use Rattle.clight_syntax.specs.Erasure.{erased, HasNoMarker}
-use Rattle.clight_syntax.specs.Numbers.{numbers, cost_at}
+use Rattle.annotate.specs.Erasure.{erased}
+use Rattle.clight_source.specs.Markers.{HasNoMarker}
+use Rattle.annotate.specs.Numbers.{numbers, cost_at}
 use Rattle.sim51.specs.Runs.{object, cycles_of_run}
 use Rattle.clight_syntax.specs.declared.points.Point.{Point}
 use Rattle.plain_programs.specs.PlainPrograms.{Plain, points}

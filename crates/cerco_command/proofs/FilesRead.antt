@@ -1,6 +1,6 @@
 -- Files that are read one after the other.
 use Rattle.std.proofs.Common.{ℕ, List, sym, ◌∙◌}
-use Rattle.cerco_base.specs.States.{FilesState, SameFiles}
+use Rattle.cerco_base.specs.Outside.IoStates.{FilesState, SameFiles}
 use Rattle.cerco_command.specs.Inputs.{IsRead}
 
 -- what is read later was there before

@@ -1,9 +1,9 @@
 -- How a listing goes on, where it ends, and that it ends.
 use Rattle.std.proofs.Common.{◌≡◌, ℕ, zero, suc, ◌+◌, ◌<◌, ◌≤◌, List, [], ◌∷◌, ◌++◌, length, Option, Some, None, Err, refl, sym, ap, subst, ◌∙◌, arith, inl, inr, append_assoc, append-nil, length-append, lit≤}
 use Rattle.std.proofs.lemmas.Bool.{cases_lt}
-use Rattle.cerco_base.specs.States.{SinkState}
-use Rattle.cerco_base.specs.Calls.{PutsText}
-use Rattle.cerco_base.specs.declared.faults.IoFault.{IoFault}
+use Rattle.cerco_base.specs.Outside.IoStates.{SinkState}
+use Rattle.cerco_base.specs.Outside.IoCalls.{PutsText}
+use Rattle.cerco_base.specs.declared.outside.faults.IoFault.{IoFault}
 use Rattle.cerco_base.proofs.Putting.{SoFar, begun}
 use Rattle.mcs51_isa.specs.declared.instr.Instr.{Instr}
 use Rattle.mcs51_isa.specs.declared.instr.Instr.TheVariants.{Nop}

@@ -1,6 +1,6 @@
 -- The files determine what a command answers.
 use Rattle.std.proofs.Common.{◌≡◌, ℕ, ◌+◌, ◌<◌, List, [], ◌∷◌, take, Result, Ok, Err, Option, Some, None, IsTrue, refl, sym, ap, subst, ◌∙◌, arith, inl, inr, ◌⊎◌}
-use Rattle.cerco_base.specs.States.{FilesState}
+use Rattle.cerco_base.specs.Outside.IoStates.{FilesState}
 use Rattle.object_hex.specs.declared.reading.faults.HexFault.{HexFault}
 use Rattle.object_hex.specs.declared.reading.faults.MapFault.{MapFault}
 use Rattle.object_hex.specs.declared.reading.faults.HexError.{HexError}

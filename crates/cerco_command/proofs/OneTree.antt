@@ -3,13 +3,13 @@ use Rattle.std.proofs.Common.{◌≡◌, inl, inr, ℕ, List, length, sym, ap, s
 use Rattle.cerco_base.specs.declared.reasons.Fault.TheVariants.{Refused}
 use Rattle.cerco_base.specs.declared.reasons.Reason.{Reason}
 use Rattle.cerco_base.specs.declared.reasons.Reason.TheVariants as r
-use Rattle.clight_syntax.specs.declared.span.Span.{Span}
-use Rattle.clight_syntax.specs.Depth.{IsFirstDeep}
-use Rattle.clight_syntax.specs.SourceTrees.{IsTreeOf, IsSourceTree}
-use Rattle.clight_syntax.specs.Spelling.{Spells}
-use Rattle.clight_syntax.specs.Symbols.{names_of, terminals_of}
-use Rattle.clight_syntax.specs.Tokens.{Token, Tokenised}
-use Rattle.clight_syntax.specs.Trees.{Item, Program}
+use Rattle.clight_source.specs.declared.span.Span.{Span}
+use Rattle.clight_source.specs.Depth.{IsFirstDeep}
+use Rattle.clight_tokens.specs.SourceTrees.{IsTreeOf, IsSourceTree}
+use Rattle.clight_source.specs.Spelling.{Spells}
+use Rattle.clight_tokens.specs.Symbols.{names_of, terminals_of}
+use Rattle.clight_tokens.specs.Tokens.{Token, Tokenised}
+use Rattle.clight_source.specs.Trees.{Item, Program}
 use Rattle.clight_syntax.specs.TypedTrees.{TypedProgram}
 use Rattle.clight_check.specs.Soundness.{IsSound, IsUnsound, HasUnsoundness}
 use Rattle.clight_check.proofs.SoundnessLaws as sound

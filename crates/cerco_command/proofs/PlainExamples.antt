@@ -1,10 +1,10 @@
 -- Which small trees are programs of port writes.
 use Rattle.std.proofs.Common.{◌≡◌, ℕ, List, [], ◌∷◌, Option, Some, None, codes, false, refl}
-use Rattle.clight_syntax.specs.declared.span.Span.{Span}
-use Rattle.clight_syntax.specs.declared.symbol.Radix.TheVariants.{Decimal}
-use Rattle.clight_syntax.specs.declared.tree.Specifiers.{Specifiers}
-use Rattle.clight_syntax.specs.declared.tree.Specifiers.TheVariants.{Void, Int}
-use Rattle.clight_syntax.specs.Trees.{Expr, Number, Parenthesis, Stmt, Empty, WritePort, Stmts, NoStmts, Then, NoParameters, Item, FunctionItem}
+use Rattle.clight_source.specs.declared.span.Span.{Span}
+use Rattle.clight_source.specs.declared.symbol.Radix.TheVariants.{Decimal}
+use Rattle.clight_source.specs.declared.tree.Specifiers.{Specifiers}
+use Rattle.clight_source.specs.declared.tree.Specifiers.TheVariants.{Void, Int}
+use Rattle.clight_source.specs.Trees.{Expr, Number, Parenthesis, Stmt, Empty, WritePort, Stmts, NoStmts, Then, NoParameters, Item, FunctionItem}
 use Rattle.plain_programs.specs.PlainPrograms.{Plain, plain_items}
 
 abbrev at : Span

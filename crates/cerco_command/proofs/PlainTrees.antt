@@ -5,12 +5,12 @@ use Rattle.std.specs.List.{flat_map}
 use Rattle.std.proofs.lemmas.List.{length-append, length-map}
 use Rattle.std.proofs.lemmas.List.Elements.{All-head, All-tail, All-nil, All-cons, All-append, All-map}
 use Rattle.std.proofs.lemmas.Bool.Decides.{nat_tests}
-use Rattle.clight_syntax.specs.declared.symbol.Terminal.{Terminal}
-use Rattle.clight_syntax.specs.declared.symbol.Symbol.TheVariants.{Semicolon, LeftBrace}
-use Rattle.clight_syntax.specs.Spelling.{terminal, expr_terminals, stmt_terminals, stmts_terminals, header_terminals, local_terminals, function_terminals, items_terminals}
-use Rattle.clight_syntax.specs.Symbols.{names_of, terminal_of, terminals_of}
-use Rattle.clight_syntax.specs.Tokens.{Token, AreAscending}
-use Rattle.clight_syntax.specs.Trees.{Expr, Variable, Number, Parenthesis, Binary, Prefix, Cast, Index, Select, Stmt, Empty, Block, Assign, ReadPort, WritePort, CallOf, If, IfElse, While, Do, For, Break, Continue, Return, Stmts, NoStmts, Then, Function, Item, StructItem, GlobalItem, PrototypeItem, FunctionItem}
+use Rattle.clight_source.specs.declared.symbol.Terminal.{Terminal}
+use Rattle.clight_source.specs.declared.symbol.Symbol.TheVariants.{Semicolon, LeftBrace}
+use Rattle.clight_source.specs.Spelling.{terminal, expr_terminals, stmt_terminals, stmts_terminals, header_terminals, local_terminals, function_terminals, items_terminals}
+use Rattle.clight_tokens.specs.Symbols.{names_of, terminal_of, terminals_of}
+use Rattle.clight_tokens.specs.Tokens.{Token, AreAscending}
+use Rattle.clight_source.specs.Trees.{Expr, Variable, Number, Parenthesis, Binary, Prefix, Cast, Index, Select, Stmt, Empty, Block, Assign, ReadPort, WritePort, CallOf, If, IfElse, While, Do, For, Break, Continue, Return, Stmts, NoStmts, Then, Function, Item, StructItem, GlobalItem, PrototypeItem, FunctionItem}
 use Rattle.clight_tokens.proofs.Spans.{ascending_whole}
 use Rattle.plain_programs.specs.PlainPrograms.{plain_value, plain_write, with_value, plain_writes, is_main, is_empty, Plain, with_body, plain_items}
 use Rattle.cerco_command.specs.PlainPrograms.{IsPlainProgram}

@@ -1,9 +1,9 @@
 -- What a list of statements writes to port 1, statement by statement.
 use Rattle.std.proofs.Common.{◌≡◌, ℕ, ◌+◌, ◌<◌, List, [], ◌∷◌, ◌++◌, length, drop, get_or, Option, Some, None, refl, sym, ap, ◌∙◌}
 use Rattle.std.proofs.lemmas.List.{at_drop_more}
-use Rattle.clight_syntax.specs.declared.tree.Stmt.{Stmt}
-use Rattle.clight_syntax.specs.Trees.{Stmts, Then}
-use Rattle.clight_syntax.specs.Views.{stmt_of, stmts_onto}
+use Rattle.clight_source.specs.declared.tree.Stmt.{Stmt}
+use Rattle.clight_source.specs.Trees.{Stmts, Then}
+use Rattle.clight_source.specs.Code.Views.{stmt_of, stmts_onto}
 use Rattle.plain_programs.specs.PlainPrograms.{plain_write, with_value, plain_writes}
 
 -- the values of some statements, and of others behind them

@@ -6,12 +6,12 @@ use Rattle.std.proofs.lemmas.List.Sums.{sum_by-cons}
 use Rattle.cerco_base.specs.declared.events.Event.{Event}
 use Rattle.cerco_base.specs.declared.events.Label.{Label}
 use Rattle.cerco_base.specs.declared.events.Port.TheVariants.{P1}
-use Rattle.cerco_base.specs.Events.{label, labels_in, Stopped, Ended}
-use Rattle.cerco_base.specs.Systems.{Run, here, StopsAt}
-use Rattle.cerco_base.specs.Headline.{Headline}
-use Rattle.cerco_base.proofs.Simulation.{joined, one_step}
-use Rattle.cerco_base.proofs.HeadlineProofs.{steps_of}
-use Rattle.clight_syntax.specs.Numbers.{numbers, cost_at, event_cost, start_cost_in, label_cost_in}
+use Rattle.cerco_base.specs.Events.{label, label_count, Stopped, Ended}
+use Rattle.cerco_traces.specs.Systems.{Run, here, StopsAt}
+use Rattle.cerco_traces.specs.Headline.{Headline}
+use Rattle.cerco_traces.proofs.Simulation.{joined, one_step}
+use Rattle.cerco_traces.proofs.HeadlineProofs.{steps_of}
+use Rattle.annotate.specs.Numbers.{numbers, cost_at, event_cost, start_cost_in, label_cost_in}
 use Rattle.mcs51_isa.specs.declared.instr.Instr.TheVariants.{Nop, Long, Return, Sjmp, MovDirectImmediate}
 use Rattle.mcs51_isa.specs.declared.instr.LongJump.TheVariants.{Lcall}
 use Rattle.mcs51_isa.specs.declared.instr.ReturnKind.TheVariants.{Ret}
@@ -177,8 +177,8 @@ module _ (code : List ℕ) where
       headline_holds script ok (suc n) =
           let e = to_end script in
           let k = steps_of (object code labels) e.run in
-          let one : labels_in e.state.events ≡ 1 = ap labels_in e.events ∙ ap (λ m. 1 + m) (no_labels values) in
-          let few : labels_in e.state.events ≤ suc n = omega arith in
+          let one : label_count e.state.events ≡ 1 = ap label_count e.events ∙ ap (λ m. 1 + m) (no_labels values) in
+          let few : label_count e.state.events ≤ suc n = omega arith in
           record {
             steps = k.0;
             stops = subst (λ s. StopsAt (object code labels) (suc n) s Ended) (sym k.1) (e.ended, few);
@@ -186,6 +186,6 @@ module _ (code : List ℕ) where
             took = ap cycles_of_run k.1 ∙ (e.cycles ∙ sym all_cost);
           }
         where
-          no_labels : (vs : List ℕ) → labels_in (map writes vs) ≡ 0
+          no_labels : (vs : List ℕ) → label_count (map writes vs) ≡ 0
           no_labels [] = refl
           no_labels (v ∷ vs) = no_labels vs

@@ -1,6 +1,6 @@
 -- How `run` ends, from what its stages did.
 use Rattle.std.proofs.Common.{◌≡◌, ℕ, List, sym, ap, subst, inl, inr, ◌⊎◌}
-use Rattle.cerco_base.specs.States.{SinkState}
+use Rattle.cerco_base.specs.Outside.IoStates.{SinkState}
 use Rattle.sim51.specs.State.{State, reset}
 use Rattle.sim51.specs.Places.{LoadedMachine}
 use Rattle.cerco_command.specs.Answers.{Answers}

@@ -2,7 +2,7 @@
 use Rattle.std.proofs.Common.{◌≡◌, ℕ, zero, suc, ◌+◌, ◌-◌, ◌<◌, ◌≤◌, List, [], ◌++◌, refl, sym, ap, ap₂, subst, ◌∙◌, arith, inl, inr, ◌⊎◌}
 use Rattle.std.proofs.lemmas.Bool.{cases_lt}
 use Rattle.std.specs.List.{flat_map}
-use Rattle.cerco_base.specs.Headline.{after}
+use Rattle.cerco_traces.specs.Headline.{after}
 use Rattle.sim51.specs.State.{State}
 use Rattle.sim51.specs.Step.{Moved, Halts, Reserved, Goes, step}
 use Rattle.sim51.specs.Runs.{Running, object, advanced}

@@ -2,7 +2,7 @@
 use Rattle.std.proofs.Common.{◌≡◌, ℕ, ◌≤◌, List, [], ◌∷◌, Result, Ok, Err, IsTrue, ◌∙◌, arith, inl, inr}
 use Rattle.std.specs.Prelude.{string_bytes}
 use Rattle.std.specs.Result.{IsErrAnd}
-use Rattle.cerco_base.specs.States.{FilesState, SameFiles, Puts}
+use Rattle.cerco_base.specs.Outside.IoStates.{FilesState, SameFiles, Puts}
 use Rattle.cerco_base.proofs.Putting.{rose_since}
 use Rattle.cerco_command.specs.Answers.{NamedText, AreWritten, ArePartlyWritten}
 use Rattle.cerco_command.specs.Stages.{IsNameOf, CannotWrite, WritesAll, Finishes}

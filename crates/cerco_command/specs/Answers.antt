@@ -1,10 +1,10 @@
 -- What the program answers, whatever the command: its status, what it puts to its output, and files that it writes one after
 -- the other. (The compiler's own.)
 use Rattle.std.specs.Prelude.{◌≡◌, ℕ, ◌<◌, List, [], ◌∷◌, ◌⊎◌, length}
-use Rattle.cerco_base.specs.Causes.{Rose}
-use Rattle.cerco_base.specs.States.{FilesState, SinkState, SameFiles, Puts}
-use Rattle.cerco_base.specs.Calls.{Keeps, Adds, AddsPrefix}
-use Rattle.cerco_base.specs.WholeFiles.{PutsPrefix}
+use Rattle.cerco_base.specs.Outside.IoFaults.{Rose}
+use Rattle.cerco_base.specs.Outside.IoStates.{FilesState, SinkState, SameFiles, Puts}
+use Rattle.cerco_base.specs.Outside.IoCalls.{Keeps, Adds, AddsPrefix}
+use Rattle.cerco_base.specs.Outside.WholeFiles.{PutsPrefix}
 use Rattle.cerco_command.specs.declared.status.Status.{Status}
 use Rattle.cerco_command.specs.declared.status.Status.TheVariants.{OutFault, NoMemory}
 use Rattle.cerco_command.specs.Status.{code_of}

@@ -1,18 +1,18 @@
 -- What `build` promises. (The compiler's own; the headline is the correctness of a cost annotating compiler as in CerCo,
 -- deliverable 2.1.)
 use Rattle.std.specs.Prelude.{◌≡◌, ℕ, List, [], ◌∷◌, Some, None, IsTrue, ◌⊎◌, false, bytes_eq}
-use Rattle.cerco_base.specs.Causes.{Rose}
+use Rattle.cerco_base.specs.Outside.IoFaults.{Rose}
 use Rattle.cerco_base.specs.declared.events.Label.{Label}
-use Rattle.cerco_base.specs.States.{FilesState, SameFiles}
-use Rattle.cerco_base.specs.Headline.{Headline}
+use Rattle.cerco_base.specs.Outside.IoStates.{FilesState, SameFiles}
+use Rattle.cerco_traces.specs.Headline.{Headline}
 use Rattle.clight_syntax.specs.Annotations.{Costs}
 use Rattle.clight_syntax.specs.Annotations.{annotated as annotated_text}
-use Rattle.clight_syntax.specs.Erasure.{erased}
+use Rattle.annotate.specs.Erasure.{erased}
 use Rattle.clight_syntax.specs.Labelling.{points_of, IsLabelled}
-use Rattle.clight_syntax.specs.SourceTrees.{IsSourceTree}
-use Rattle.clight_syntax.specs.Trees.{Program}
+use Rattle.clight_tokens.specs.SourceTrees.{IsSourceTree}
+use Rattle.clight_source.specs.Trees.{Program}
 use Rattle.clight_syntax.specs.TypedTrees.{TypedProgram}
-use Rattle.clight_syntax.specs.Numbers.{cost_at}
+use Rattle.annotate.specs.Numbers.{cost_at}
 use Rattle.object_hex.specs.HexMeaning.{IsHexText}
 use Rattle.object_hex.specs.MapMeaning.{IsMapText}
 use Rattle.sim51.specs.Runs.{object, cycles_of_run}

@@ -1,7 +1,7 @@
 -- What `list` prints: the instructions of a code from address 0 to its end. (Intel, MCS-51 instruction set; the lines are this
 -- project's own.)
 use Rattle.std.specs.Prelude.{◌≡◌, ℕ, ◌+◌, ◌<◌, ◌≤◌, ◌⊎◌, List, [], ◌∷◌, ◌++◌, length, slice_index, Option, Some, None, IsTrue}
-use Rattle.cerco_base.specs.States.{FilesState, SameFiles}
+use Rattle.cerco_base.specs.Outside.IoStates.{FilesState, SameFiles}
 use Rattle.mcs51_isa.specs.declared.instr.Instr.{Instr}
 use Rattle.mcs51_isa.specs.Table.{encode_of}
 use Rattle.mcs51_isa.specs.Decoding.{decode_of}

@@ -1,7 +1,7 @@
 -- The files that a command reads, whole and in the order of the words, and the texts of an object in them. (The compiler's own.)
 use Rattle.std.specs.Prelude.{◌≡◌, ℕ, ◌+◌, ◌<◌, ◌≤◌, ◌⊎◌, List, [], ◌∷◌, length, take, Some, None, IsTrue}
-use Rattle.cerco_base.specs.Causes.{Rose}
-use Rattle.cerco_base.specs.States.{FilesState}
+use Rattle.cerco_base.specs.Outside.IoFaults.{Rose}
+use Rattle.cerco_base.specs.Outside.IoStates.{FilesState}
 use Rattle.object_hex.specs.declared.reading.faults.HexFault.{HexFault}
 use Rattle.object_hex.specs.declared.reading.faults.MapFault.{MapFault}
 use Rattle.object_hex.specs.HexMeaning.{IsHexText, IsFirstFault}

@@ -1,7 +1,7 @@
 -- That each answer is meant in one case alone: the files determine what a command answers, and a machine's run has one stop. (The
 -- compiler's own.)
 use Rattle.std.specs.Prelude.{◌≡◌, ℕ, ◌<◌, List, IsTrue}
-use Rattle.cerco_base.specs.States.{FilesState}
+use Rattle.cerco_base.specs.Outside.IoStates.{FilesState}
 use Rattle.sim51.specs.Step.{Reserved}
 use Rattle.cerco_command.specs.Running.{Setup, state_after, step_after, RunsTo}
 use Rattle.cerco_command.specs.declared.status.Status.{Status}

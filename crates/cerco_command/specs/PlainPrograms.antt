@@ -1,7 +1,7 @@
 -- Which texts `build` compiles so far: the sound ones that are plain programs.
 use Rattle.std.specs.Prelude.{◌≡◌, ℕ, List, Some, None}
-use Rattle.clight_syntax.specs.SourceTrees.{IsSourceTree}
-use Rattle.clight_syntax.specs.Trees.{Program}
+use Rattle.clight_tokens.specs.SourceTrees.{IsSourceTree}
+use Rattle.clight_source.specs.Trees.{Program}
 use Rattle.clight_syntax.specs.TypedTrees.{TypedProgram}
 use Rattle.clight_check.specs.Soundness.{IsSound}
 use Rattle.plain_programs.specs.PlainPrograms.{Plain, plain_program}

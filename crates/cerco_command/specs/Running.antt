@@ -3,8 +3,8 @@
 use Rattle.std.specs.Prelude.{◌≡◌, ℕ, zero, suc, ◌<◌, ◌≤◌, ◌⊎◌, List, [], ◌∷◌, ◌++◌, map, IsTrue}
 use Rattle.std.specs.List.{flat_map}
 use Rattle.cerco_base.specs.declared.events.Event.{Event}
-use Rattle.cerco_base.specs.States.{FilesState, SameFiles}
-use Rattle.cerco_base.specs.Headline.{after}
+use Rattle.cerco_base.specs.Outside.IoStates.{FilesState, SameFiles}
+use Rattle.cerco_traces.specs.Headline.{after}
 use Rattle.sim51.specs.State.{State}
 use Rattle.sim51.specs.Step.{Moved, Halts, Reserved, Goes, step}
 use Rattle.sim51.specs.Runs.{object, events_of}

@@ -1,11 +1,11 @@
 -- The stages of the commands: what a reply is, how `build` reads a source, compiles it and writes the outputs, and how a text is put
 -- by pieces. (The compiler's own.)
 use Rattle.std.specs.Prelude.{◌≡◌, ℕ, ◌+◌, ◌<◌, length, ◌≤◌, List, [], ◌∷◌, ◌++◌, Option, Some, None, Result, OnOk, OnErr, IfErr, IsTrue, string_bytes, ◌⊎◌}
-use Rattle.cerco_base.specs.Causes.{Rose}
+use Rattle.cerco_base.specs.Outside.IoFaults.{Rose}
 use Rattle.cerco_base.specs.declared.reasons.Fault.{Fault}
 use Rattle.cerco_base.specs.declared.reasons.Fault.TheVariants as f
-use Rattle.cerco_base.specs.States.{FilesState, SinkState, SameFiles}
-use Rattle.cerco_base.specs.Calls.{Keeps, Adds}
+use Rattle.cerco_base.specs.Outside.IoStates.{FilesState, SinkState, SameFiles}
+use Rattle.cerco_base.specs.Outside.IoCalls.{Keeps, Adds}
 use Rattle.mcs51_isa.specs.declared.instr.Instr.{Instr}
 use Rattle.mcs51_isa.specs.Table.{encode_of}
 use Rattle.mcs51_isa.specs.Listing.{line_of}

@@ -1,8 +1,8 @@
 -- The exit status of the program (ISO/IEC 9899:1999, 7.20.4.3: the status returned to the host environment; the numbers are
 -- the compiler's own).
 use Rattle.std.specs.Prelude.{ℕ}
-use Rattle.cerco_base.specs.declared.faults.IoFault.{IoFault}
-use Rattle.cerco_base.specs.declared.faults.IoFault.TheVariants as Io
+use Rattle.cerco_base.specs.declared.outside.faults.IoFault.{IoFault}
+use Rattle.cerco_base.specs.declared.outside.faults.IoFault.TheVariants as Io
 use Rattle.cerco_command.specs.declared.status.Status.{Status}
 use Rattle.cerco_command.specs.declared.status.Status.TheVariants.{Done, NoFile, Usage, Refused, FileFault, OutFault, BadInput, Reserved, NoMemory}
 

@@ -1,6 +1,6 @@
 -- What the program promises for its words. (The compiler's own.)
 use Rattle.std.specs.Prelude.{◌≡◌, ℕ, List, [], Option, Some, None, IsTrue}
-use Rattle.cerco_base.specs.States.{FilesState, SameFiles}
+use Rattle.cerco_base.specs.Outside.IoStates.{FilesState, SameFiles}
 use Rattle.cerco_command.specs.Words.{Request, Builds, Runs, Lists}
 use Rattle.cerco_command.specs.Messages.{usage}
 use Rattle.cerco_command.specs.Building.{BuildMeans}

@@ -1,11 +1,11 @@
 //! The command `build`.
 ghost use Rattle.std.specs.Prelude.{◌≡◌, ◌∷◌, [], IfOk, IfErr, option_map, string_bytes};
-ghost use Rattle.cerco_base.specs.Memory.{sound_sink_state};
+ghost use Rattle.cerco_base.specs.Outside.InMemory.{sound_sink_state};
 ghost use Rattle.clight_syntax.specs.Annotations.{Costs};
 ghost use Rattle.clight_syntax.specs.Annotations.{annotated as annotated_text};
 ghost use Rattle.clight_reader.specs.Reasons.{IsNotRead};
-ghost use Rattle.clight_syntax.specs.SourceTrees.{IsSourceTree};
-ghost use Rattle.clight_syntax.specs.Views.{program_of};
+ghost use Rattle.clight_tokens.specs.SourceTrees.{IsSourceTree};
+ghost use Rattle.clight_source.specs.Code.Views.{program_of};
 ghost use Rattle.plain_programs.specs.PlainPrograms.{points};
 ghost use Rattle.cerco_command.specs.PlainPrograms.{IsPlainProgram};
 ghost use Rattle.cerco_command.specs.PlainViews.{plain_of};

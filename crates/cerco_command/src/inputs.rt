@@ -1,7 +1,7 @@
 //! The files that commands read, and the texts of an object in them.
 ghost use Rattle.std.specs.Prelude.{◌≡◌, ◌<◌, ◌≤◌, ◌∷◌, [], length, nat_eq, string_bytes, OnOk, IfOk, IfErr, IsTrue};
 ghost use Rattle.std.specs.List.{IsDistinct};
-ghost use Rattle.cerco_base.specs.States.{SameFiles};
+ghost use Rattle.cerco_base.specs.Outside.IoStates.{SameFiles};
 ghost use Rattle.object_hex.specs.HexMeaning.{IsHexText};
 ghost use Rattle.object_hex.specs.MapMeaning.{IsMapText};
 ghost use Rattle.cerco_command.specs.Inputs.{IsRead, CannotRead, longest, HasNoCode, HasNoLabels};

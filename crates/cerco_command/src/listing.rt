@@ -1,6 +1,6 @@
 //! The command `list`.
 ghost use Rattle.std.specs.Prelude.{◌≡◌, ◌≤◌, ◌<◌, length, slice_index, IfOk};
-ghost use Rattle.cerco_base.specs.Memory.{sound_sink_state};
+ghost use Rattle.cerco_base.specs.Outside.InMemory.{sound_sink_state};
 ghost use Rattle.mcs51_isa.specs.Decoding.{with_length};
 ghost use Rattle.cerco_command.specs.Answers.{Answers};
 ghost use Rattle.cerco_command.specs.Disassembly.{listed_at, ListsTo, ListMeans, ListMeansFor};

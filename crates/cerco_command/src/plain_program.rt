@@ -1,12 +1,13 @@
 //! The programs that do nothing but write numbers to port 1.
 ghost use Rattle.std.specs.Prelude.{◌≡◌, option_map, IfOk};
-ghost use Rattle.clight_syntax.specs.Views.{expr_of, stmt_of, stmts_of, declared_of, header_of, function_of, program_of};
+ghost use Rattle.clight_source.specs.Code.Views.{expr_of, stmt_of, stmts_of, declared_of, header_of, function_of, program_of};
 ghost use Rattle.plain_programs.specs.PlainPrograms as s;
 ghost use Rattle.cerco_command.specs.PlainViews.{plain_of};
 
 use cerco_base::NoMemory;
-use clight_syntax::tree::{Declared, Header, Item, Parameters, Specifiers};
-use clight_syntax::{Expr, Function, Names, PortWrites, Program, Stmt};
+use clight_source::tree::{Declared, Header, Item, Parameters, Specifiers};
+use clight_syntax::{Expr, Function, Names, Program, Stmt};
+use plain_programs::PortWrites;
 use std::alloc::Global;
 
 /// A program that does nothing but write numbers to port 1.

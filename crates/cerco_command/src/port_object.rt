@@ -6,8 +6,8 @@ ghost use Rattle.mcs51_isa.specs.Table.{encode_of};
 ghost use Rattle.sim51.specs.Placed.{code_of_instrs};
 
 use cerco_base::{Code, LabelList, NoMemory};
-use clight_syntax::PortWrites;
 use mcs51_isa::{Instr, LongJump, ReturnKind, cycles, encode};
+use plain_programs::PortWrites;
 use std::alloc::Global;
 
 /// The direct address of the stack pointer.

@@ -1,7 +1,7 @@
 //! Lines of numbers, and a text that is put by pieces.
 ghost use Rattle.std.specs.Prelude.{◌≡◌, ◌<◌, ◌++◌, ◌∷◌, [], codes, decimal, length, IfOk, IfErr};
-ghost use Rattle.cerco_base.specs.Calls.{PutsText};
-ghost use Rattle.cerco_base.specs.Memory.{sound_sink_state};
+ghost use Rattle.cerco_base.specs.Outside.IoCalls.{PutsText};
+ghost use Rattle.cerco_base.specs.Outside.InMemory.{sound_sink_state};
 ghost use Rattle.mcs51_isa.specs.Listing.{hex_digit, hex_word};
 ghost use Rattle.sim51.specs.Locations.{port_number};
 ghost use Rattle.sim51.specs.Runs.{events_of, label_events};

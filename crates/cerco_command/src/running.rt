@@ -1,7 +1,7 @@
 //! The command `run`.
 ghost use Rattle.std.specs.Prelude.{◌≡◌, ℕ, ◌≤◌, ◌<◌, ◌^◌, length, OnOk, IfOk, IfErr, IsTrue, string_bytes};
-ghost use Rattle.cerco_base.specs.States.{SameFiles};
-ghost use Rattle.cerco_base.specs.Memory.{sound_sink_state};
+ghost use Rattle.cerco_base.specs.Outside.IoStates.{SameFiles};
+ghost use Rattle.cerco_base.specs.Outside.InMemory.{sound_sink_state};
 ghost use Rattle.sim51.specs.State.{reset};
 ghost use Rattle.cerco_command.specs.Answers.{Answers};
 ghost use Rattle.cerco_command.specs.Inputs.{CannotRead, longest, NoneTooLong, AreObject};

@@ -1,9 +1,9 @@
 -- Branches of the machine.
 use Rattle.std.proofs.Common.{◌≡◌, List, [], ◌∷◌, refl}
-use Rattle.clight_syntax.specs.declared.span.Span.{Span}
-use Rattle.clight_syntax.specs.declared.symbol.Symbol.{Symbol}
-use Rattle.clight_syntax.specs.declared.symbol.Symbol.TheVariants as s
-use Rattle.clight_syntax.specs.declared.tree.Specifiers.{Specifiers}
+use Rattle.clight_source.specs.declared.span.Span.{Span}
+use Rattle.clight_source.specs.declared.symbol.Symbol.{Symbol}
+use Rattle.clight_source.specs.declared.symbol.Symbol.TheVariants as s
+use Rattle.clight_source.specs.declared.tree.Specifiers.{Specifiers}
 use Rattle.clight_parts.specs.Builds.{Build}
 use Rattle.clight_parts.specs.Forms.{Form, InTarget}
 use Rattle.clight_parts.specs.Expressions.{is_target, in_cast}

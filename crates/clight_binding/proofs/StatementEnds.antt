@@ -1,10 +1,10 @@
 -- What a whole statement ends, where no loop, `else` or `if` ends with it.
 use Rattle.std.proofs.Common.{◌≡◌, List, ◌∷◌, refl, ap, ◌∙◌, IfOk, Result, Ok, Err}
-use Rattle.cerco_base.specs.declared.faults.NoMemory.{NoMemory}
-use Rattle.clight_syntax.specs.declared.span.Span.{Span}
-use Rattle.clight_syntax.specs.declared.symbol.Symbol.{Symbol}
-use Rattle.clight_syntax.specs.declared.symbol.Symbol.TheVariants as v
-use Rattle.clight_syntax.specs.Trees.{Stmt}
+use Rattle.cerco_base.specs.declared.no_memory.NoMemory.{NoMemory}
+use Rattle.clight_source.specs.declared.span.Span.{Span}
+use Rattle.clight_source.specs.declared.symbol.Symbol.{Symbol}
+use Rattle.clight_source.specs.declared.symbol.Symbol.TheVariants as v
+use Rattle.clight_source.specs.Trees.{Stmt}
 use Rattle.clight_parts.specs.declared.forms.Form.{Form}
 use Rattle.clight_parts.specs.declared.forms.Form.TheVariants as f
 use Rattle.clight_parts.specs.declared.forms.Mode.{Mode as CMode}

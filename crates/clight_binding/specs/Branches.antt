@@ -1,8 +1,8 @@
 -- Names for branches of the machine that the program has a function for.
 use Rattle.std.specs.Prelude.{List, ◌∷◌, Some, None}
-use Rattle.clight_syntax.specs.declared.span.Span.{Span}
-use Rattle.clight_syntax.specs.declared.symbol.Symbol.{Symbol}
-use Rattle.clight_syntax.specs.declared.tree.Specifiers.{Specifiers}
+use Rattle.clight_source.specs.declared.span.Span.{Span}
+use Rattle.clight_source.specs.declared.symbol.Symbol.{Symbol}
+use Rattle.clight_source.specs.declared.tree.Specifiers.{Specifiers}
 use Rattle.clight_parts.specs.Builds.{Build, no_statements, more_statements}
 use Rattle.clight_parts.specs.Nodes.{ExprOf, StmtOf, name_of, assignment, just_assignment, for_start, for_head, assign}
 use Rattle.clight_parts.specs.Forms.{Form, Place, AsStatement, AsFirst, AsStep, Mode, InTarget, InDo, InFor, InBlock, InLocals, InBody, ReadPending, CastWords, Statement, DoBody, ForCondition, StatementEnd, Refused}

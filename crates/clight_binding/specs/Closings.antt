@@ -5,7 +5,7 @@ use Rattle.clight_binding.specs.declared.closing.Closing.{Closing}
 use Rattle.clight_binding.specs.declared.closing.Closing.TheVariants.{Whole, Next}
 use Rattle.clight_parts.specs.Builds as b
 use Rattle.clight_parts.specs.Builds.{limited}
-use Rattle.clight_syntax.specs.Trees.{Stmt}
+use Rattle.clight_source.specs.Trees.{Stmt}
 use Rattle.clight_parts.specs.Forms as o
 use Rattle.clight_parts.specs.Views.{stmt_part, forms, mode_of}
 

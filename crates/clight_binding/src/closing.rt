@@ -15,8 +15,8 @@ use clight_parts::stack::{pop, push, refuse_statement, refuse_with, start_in};
 use clight_parts::statement_nodes::{
     for_statement, if_else, if_statement, more_statements, no_statements, while_statement,
 };
-use clight_syntax::span::Span;
-use clight_syntax::tree::Stmt;
+use clight_source::span::Span;
+use clight_source::tree::Stmt;
 use std::alloc::Global;
 
 /// What became of a whole statement.

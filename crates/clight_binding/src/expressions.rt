@@ -14,9 +14,9 @@ use clight_parts::nodes::{constant, select, variable};
 use clight_parts::part::Part;
 use clight_parts::stack::{operand_in, pop, push, refuse, refuse_behind, refuse_operand};
 use clight_parts::words::{first_word, next_word};
-use clight_syntax::span::Span;
-use clight_syntax::symbol::{Symbol, Terminal};
-use clight_syntax::tree::{BinaryOperator, Expr, MemberOperator, Name, PrefixOperator, Specifiers};
+use clight_source::span::Span;
+use clight_source::symbol::{Symbol, Terminal};
+use clight_source::tree::{BinaryOperator, Expr, MemberOperator, Name, PrefixOperator, Specifiers};
 use std::alloc::Global;
 
 /// A binary operator behind an operand whose operators are closed.

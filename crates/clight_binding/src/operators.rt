@@ -1,7 +1,7 @@
 //! Operators and how tightly they bind.
 
 ghost use Rattle.std.specs.Prelude.{◌≡◌, [], ◌∷◌, IfOk};
-ghost use Rattle.clight_syntax.specs.Spelling as g;
+ghost use Rattle.clight_source.specs.Spelling as g;
 ghost use Rattle.clight_parts.specs.Builds.{limited};
 ghost use Rattle.clight_parts.specs.Expressions as s;
 ghost use Rattle.clight_parts.specs.Views.{expr_part, form_of, forms};
@@ -11,8 +11,8 @@ use clight_parts::forms::Form;
 use clight_parts::nodes::{binary, cast, prefix};
 use clight_parts::part::Part;
 use clight_parts::stack::{pop, push};
-use clight_syntax::symbol::Symbol;
-use clight_syntax::tree::{BinaryOperator, Expr};
+use clight_source::symbol::Symbol;
+use clight_source::tree::{BinaryOperator, Expr};
 use std::alloc::Global;
 
 const UNARY_LEVEL: u32 = 12;

@@ -4,7 +4,7 @@ use Rattle.cerco_base.specs.declared.reasons.NameKind.{NameKind}
 use Rattle.cerco_base.specs.declared.reasons.TypeKind.{TypeKind}
 use Rattle.cerco_base.specs.declared.reasons.Reason.{Reason}
 use Rattle.cerco_base.specs.declared.reasons.Reason.TheVariants as r
-use Rattle.clight_syntax.specs.Trees.{Program}
+use Rattle.clight_source.specs.Trees.{Program}
 use Rattle.clight_syntax.specs.TypedTrees.{TypedProgram}
 use Rattle.clight_names.specs.NameFaults.{NameFault, first_name_fault, name_fault}
 use Rattle.clight_typing.specs.TypedExpressions.{Checked, fault}

@@ -2,7 +2,7 @@
 -- are determined.
 use Rattle.std.specs.Prelude.{◌≡◌, []}
 use Rattle.cerco_base.specs.declared.reasons.Reason.{Reason}
-use Rattle.clight_syntax.specs.Trees.{Program}
+use Rattle.clight_source.specs.Trees.{Program}
 use Rattle.clight_syntax.specs.TypedTrees.{TypedProgram}
 use Rattle.clight_check.specs.Soundness.{IsSound, IsUnsound}
 

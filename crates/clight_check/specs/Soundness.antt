@@ -6,8 +6,8 @@ use Rattle.cerco_base.specs.declared.reasons.Fault.{Fault}
 use Rattle.cerco_base.specs.declared.reasons.Fault.TheVariants.{Refused, OutOfMemory}
 use Rattle.cerco_base.specs.declared.reasons.Reason.{Reason}
 use Rattle.cerco_base.specs.declared.reasons.Reason.TheVariants.{Name, Typing, Recursion, StackFull, DataFull}
-use Rattle.clight_syntax.specs.SourceTrees.{IsSourceTree}
-use Rattle.clight_syntax.specs.Trees.{Program}
+use Rattle.clight_tokens.specs.SourceTrees.{IsSourceTree}
+use Rattle.clight_source.specs.Trees.{Program}
 use Rattle.clight_syntax.specs.TypedTrees.{TypedProgram}
 use Rattle.clight_names.specs.NameFaults.{first_name_fault, name_fault}
 use Rattle.clight_typing.specs.TypedExpressions.{fault}

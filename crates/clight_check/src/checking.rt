@@ -1,7 +1,7 @@
 //! The typed tree of a program with its layout, or why it has none.
 ghost use Rattle.std.specs.Prelude.{IfOk, IfErr};
-ghost use Rattle.clight_syntax.specs.TypedViews.{program_of};
-ghost use Rattle.clight_syntax.specs.Views.{program_of as program_source_of};
+ghost use Rattle.clight_syntax.specs.Code.TypedViews.{program_of};
+ghost use Rattle.clight_source.specs.Code.Views.{program_of as program_source_of};
 ghost use Rattle.clight_check.specs.Soundness.{IsSound, IsRefused};
 
 use cerco_base::Fault;

@@ -1,8 +1,8 @@
 -- Names for branches of the machine that the program has a function for.
 use Rattle.std.specs.Prelude.{Bool, true, false, Some, None}
-use Rattle.clight_syntax.specs.declared.span.Span.{Span}
-use Rattle.clight_syntax.specs.declared.symbol.Symbol.{Symbol}
-use Rattle.clight_syntax.specs.declared.tree.Specifiers.{Specifiers}
+use Rattle.clight_source.specs.declared.span.Span.{Span}
+use Rattle.clight_source.specs.declared.symbol.Symbol.{Symbol}
+use Rattle.clight_source.specs.declared.tree.Specifiers.{Specifiers}
 use Rattle.clight_parts.specs.Builds.{Build}
 use Rattle.clight_parts.specs.Forms.{Owner, InFirstParameter, InLaterParameter, Mode, Words, Refused}
 use Rattle.clight_parts.specs.Expressions.{first_word, next_word}

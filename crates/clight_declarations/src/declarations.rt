@@ -8,7 +8,7 @@ ghost use Rattle.clight_parts.specs.Forms as o;
 ghost use Rattle.clight_parts.specs.Nodes as n;
 ghost use Rattle.clight_parts.specs.Machine.{next};
 ghost use Rattle.clight_parts.specs.Views.{forms, owner_of, struct_front, members_note, earlier_parameters_note, header_note, mode_of, declaration_mode};
-ghost use Rattle.clight_syntax.specs.Views.{declared_of, declaration_of};
+ghost use Rattle.clight_source.specs.Code.Views.{declared_of, declaration_of};
 
 use crate::initialisers::in_initialiser;
 use cerco_base::NoMemory;
@@ -21,9 +21,9 @@ use clight_parts::nodes::StructFront;
 use clight_parts::part::Noted;
 use clight_parts::stack::{operand_alone, start_alone};
 use clight_parts::words::{first_word, next_word};
-use clight_syntax::span::Span;
-use clight_syntax::symbol::{Literal, Symbol, Terminal};
-use clight_syntax::tree::{
+use clight_source::span::Span;
+use clight_source::symbol::{Literal, Symbol, Terminal};
+use clight_source::tree::{
     Declaration, Declared, EarlierParameter, Header, Initialiser, Item, Length, LocalInitialiser,
     Member, Name, Specifiers,
 };

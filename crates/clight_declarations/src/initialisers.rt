@@ -4,18 +4,18 @@ ghost use Rattle.std.specs.Prelude.{◌≡◌, IfOk};
 ghost use Rattle.clight_parts.specs.Builds.{limited};
 ghost use Rattle.clight_parts.specs.Declarations as s;
 ghost use Rattle.clight_parts.specs.Forms as o;
-ghost use Rattle.clight_syntax.specs.Trees as t;
-ghost use Rattle.clight_syntax.specs.declared.symbol.Symbol.TheVariants as y;
+ghost use Rattle.clight_source.specs.Trees as t;
+ghost use Rattle.clight_source.specs.declared.symbol.Symbol.TheVariants as y;
 ghost use Rattle.clight_parts.specs.Machine.{next};
 ghost use Rattle.clight_parts.specs.Views.{number_list, declaration_mode, initialiser_mode};
-ghost use Rattle.clight_syntax.specs.Views.{declaration_of, initialiser_of};
+ghost use Rattle.clight_source.specs.Code.Views.{declaration_of, initialiser_of};
 
 use cerco_base::NoMemory;
 use clight_parts::declaration_nodes::global_item;
 use clight_parts::forms::{DeclarationMode, InitialiserMode, NumberList};
-use clight_syntax::span::Span;
-use clight_syntax::symbol::{Literal, Symbol, Terminal};
-use clight_syntax::tree::{Declaration, EarlierNumber, Initialiser, SignedNumber};
+use clight_source::span::Span;
+use clight_source::symbol::{Literal, Symbol, Terminal};
+use clight_source::tree::{Declaration, EarlierNumber, Initialiser, SignedNumber};
 use std::alloc::Global;
 
 fn refuse_declaration(_x: Declaration) -> DeclarationMode

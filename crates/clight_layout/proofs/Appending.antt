@@ -2,12 +2,12 @@
 use Rattle.std.proofs.Common.{◌≡◌, ℕ, ◌+◌, ◌<◌, List, [], ◌∷◌, ◌++◌, length, take, get_or, Vec, Global, sym, ap, subst, ◌∙◌, append_assoc}
 use Rattle.std.specs.Prelude.{Result, OnOk}
 use Rattle.std.proofs.lemmas.List.{take_more}
-use Rattle.cerco_base.specs.declared.faults.NoMemory.{NoMemory}
-use Rattle.clight_syntax.specs.declared.span.Span.{Span}
+use Rattle.cerco_base.specs.declared.no_memory.NoMemory.{NoMemory}
+use Rattle.clight_source.specs.declared.span.Span.{Span}
 use Rattle.clight_syntax.specs.declared.typed.Stmt.{Stmt}
 use Rattle.clight_syntax.specs.declared.typed.Stmt.TheVariants.{Block}
 use Rattle.clight_syntax.specs.TypedTrees as p
-use Rattle.clight_syntax.specs.TypedViews.{stmt_of, stmts_of}
+use Rattle.clight_syntax.specs.Code.TypedViews.{stmt_of, stmts_of}
 use Rattle.clight_syntax.proofs.TypedRows.{block_is, stmts_onto-more}
 use Rattle.clight_layout.specs.Calls.{stmt_calls, stmts_calls}
 

@@ -1,12 +1,12 @@
 -- The calls and the layout of small programs, computed.
 use Rattle.std.proofs.Common.{◌≡◌, ℕ, true, false, List, [], ◌∷◌, map, refl}
-use Rattle.clight_syntax.specs.declared.span.Span.{Span}
-use Rattle.clight_syntax.specs.declared.tree.Name.{Name}
-use Rattle.clight_syntax.specs.declared.tree.Specifiers.TheVariants as t
+use Rattle.clight_source.specs.declared.span.Span.{Span}
+use Rattle.clight_source.specs.declared.tree.Name.{Name}
+use Rattle.clight_source.specs.declared.tree.Specifiers.TheVariants as t
 use Rattle.clight_syntax.specs.declared.typed.Home.{Home}
 use Rattle.clight_syntax.specs.declared.typed.Home.TheVariants as h
-use Rattle.clight_syntax.specs.Trees.{NoParameters}
-use Rattle.clight_syntax.specs.Types.{CType, Void, Integer, Pointer, Array, One, Two}
+use Rattle.clight_source.specs.Trees.{NoParameters}
+use Rattle.c_types.specs.Types.{CType, Void, Integer, Pointer, Array, One, Two}
 use Rattle.clight_syntax.specs.TypedTrees.{Stmt, Block, CallOf, Stmts, NoStmts, Then, NoArguments, Function, Variable'}
 use Rattle.clight_layout.specs.declared.sizes.Area.TheVariants.{Globals}
 use Rattle.clight_layout.specs.Calls.{callees}

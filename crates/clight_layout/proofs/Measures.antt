@@ -8,7 +8,7 @@ use Rattle.call_graph.specs.CallPaths.{Calls, CallsIn, IsLargestSum, IsLargestSu
 use Rattle.call_graph.proofs.Consequences.{largest_along_calls, before_along_calls}
 use Rattle.clight_syntax.specs.declared.typed.Function.{Function as Held}
 use Rattle.clight_syntax.specs.TypedTrees.{TypedProgram}
-use Rattle.clight_syntax.specs.TypedViews.{function_of}
+use Rattle.clight_syntax.specs.Code.TypedViews.{function_of}
 use Rattle.clight_layout.specs.Calls.{stmts_calls, body_calls, callees}
 use Rattle.clight_layout.specs.Layout.{IsDepth, IsTotal, IsStart, frame_sizes, global_bytes}
 

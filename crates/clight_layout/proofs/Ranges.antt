@@ -5,8 +5,8 @@ use Rattle.std.proofs.lemmas.List.{take-map, drop-map, take_min, drop_min}
 use Rattle.std.proofs.Math.Seq.{take-length}
 use Rattle.clight_syntax.specs.declared.typed.Variable.{Variable}
 use Rattle.clight_syntax.specs.TypedTrees.{Variable', Function}
-use Rattle.clight_syntax.specs.TypedViews.{variable_of}
-use Rattle.clight_syntax.specs.Types.{StructType}
+use Rattle.clight_syntax.specs.Code.TypedViews.{variable_of}
+use Rattle.c_types.specs.Types.{StructType}
 use Rattle.clight_layout.specs.declared.sizes.Area.TheVariants.{Frame}
 use Rattle.clight_layout.specs.Frames.{placed, with_frame, own_count}
 

@@ -3,7 +3,7 @@
 use Rattle.std.specs.Prelude.{ℕ, ◌+◌, Bool, true, false, List, [], ◌∷◌, ◌++◌, length, take, drop, if◌then◌else◌}
 use Rattle.clight_syntax.specs.declared.typed.Home.{Home}
 use Rattle.clight_syntax.specs.declared.typed.Home.TheVariants as h
-use Rattle.clight_syntax.specs.Types.{StructType, size_of}
+use Rattle.c_types.specs.Types.{StructType, size_of}
 use Rattle.clight_syntax.specs.TypedTrees.{Function, Variable'}
 use Rattle.clight_layout.specs.declared.sizes.Area.{Area}
 use Rattle.clight_layout.specs.declared.sizes.Area.TheVariants.{Globals, Frame}

@@ -1,6 +1,6 @@
 //! The calls in the bodies of functions.
 ghost use Rattle.std.specs.Prelude.{◌≡◌, ◌++◌, OnOk};
-ghost use Rattle.clight_syntax.specs.TypedViews.{stmt_of, stmts_of};
+ghost use Rattle.clight_syntax.specs.Code.TypedViews.{stmt_of, stmts_of};
 ghost use Rattle.clight_layout.specs.Calls.{stmt_calls, stmts_calls};
 
 use cerco_base::NoMemory;

@@ -1,6 +1,6 @@
 //! The graph of a program's calls.
 ghost use Rattle.std.specs.Prelude.{◌≡◌, ℕ, ◌<◌, ◌++◌, ◌∷◌, [], List, length, map, filter, nat_lt, IfOk, OnOk};
-ghost use Rattle.clight_syntax.specs.TypedViews.{function_of};
+ghost use Rattle.clight_syntax.specs.Code.TypedViews.{function_of};
 ghost use Rattle.clight_layout.specs.Calls.{stmts_calls, callees};
 
 use crate::calls::add_stmts;

@@ -1,7 +1,7 @@
 //! The layout of a program.
 ghost use Rattle.std.specs.Prelude.{◌≡◌, ℕ, ◌<◌, ◌≤◌, length, map, IfOk, slice_get};
 ghost use Rattle.call_graph.specs.CallPaths.{IsOrderOf};
-ghost use Rattle.clight_syntax.specs.TypedViews.{function_of, program_of};
+ghost use Rattle.clight_syntax.specs.Code.TypedViews.{function_of, program_of};
 ghost use Rattle.clight_layout.specs.Calls.{callees};
 ghost use Rattle.clight_layout.specs.Layout.{HasNoCycle, IsDepth, greatest_depth, global_bytes, frame_sizes as frame_sizes_lem, laid_out, IsLayout};
 ghost use Rattle.clight_layout.specs.Outcomes.{defined_at as defined_at_lem, Answers, IsMeasured};

@@ -1,16 +1,16 @@
 //! The bytes of variables in external RAM.
 ghost use Rattle.std.specs.Prelude.{◌≡◌, map, take, drop, IfOk};
-ghost use Rattle.clight_syntax.specs.Types.{type_of, size_of as size_of_lem};
-ghost use Rattle.clight_syntax.specs.TypedViews.{struct_type_of, variable_of, function_of};
+ghost use Rattle.c_types.specs.Types.{type_of, size_of as size_of_lem};
+ghost use Rattle.clight_syntax.specs.Code.TypedViews.{struct_type_of, variable_of, function_of};
 ghost use Rattle.clight_layout.specs.Frames.{lies_in as lies_in_lem, room_of as room_of_lem, bytes_of as bytes_of_lem, own_count as own_count_lem, own_variables as own_variables_lem, frame_bytes};
 
 use cerco_base::NoMemory;
-use clight_syntax::Ty;
+use c_types::Ty;
 use clight_syntax::typed::{Function, Home, StructType, Variable};
 use std::alloc::Global;
 
 /// Where variables lie one after the other.
-#[derive(Clone, Copy, Debug, PartialEq, Eq)]
+#[derive(Clone, Copy)]
 pub enum Area {
     /// Among the globals.
     Globals,

@@ -1,7 +1,7 @@
 //! The addresses of variables.
 ghost use Rattle.std.specs.Prelude.{◌≡◌, ◌≤◌, ◌++◌, length, take, drop, map, OnOk, if◌then◌else◌};
 ghost use Rattle.clight_layout.specs.declared.sizes.Area.TheVariants.{Frame};
-ghost use Rattle.clight_syntax.specs.TypedViews.{struct_type_of, variable_of, function_of};
+ghost use Rattle.clight_syntax.specs.Code.TypedViews.{struct_type_of, variable_of, function_of};
 ghost use Rattle.clight_layout.specs.Frames.{lies_in as lies_in_lem, at_address, placed, with_frame as with_frame_lem, with_frames as with_frames_lem};
 
 use crate::sizes::{Area, lies_in, own_count, room_of};

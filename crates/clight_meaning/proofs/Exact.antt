@@ -1,7 +1,7 @@
 -- Of an evaluator's answers only one fits a rest.
 use Rattle.std.proofs.Common.{◌≡◌, List, [], ◌∷◌, refl, sym, ap, subst, ◌∙◌}
 use Rattle.cerco_base.specs.Events.{Stop, Ended}
-use Rattle.cerco_base.specs.Preservation.{Outcome, Stops, Faults, and_then}
+use Rattle.cerco_traces.specs.Preservation.{Outcome, Stops, Faults, and_then}
 use Rattle.cerco_base.specs.declared.events.Event.{Event}
 use Rattle.cerco_base.specs.declared.events.Event.TheVariants as event
 use Rattle.cerco_base.specs.declared.events.FaultKind.{FaultKind}

@@ -1,16 +1,16 @@
 -- The meaning, computed on small programs.
 use Rattle.std.proofs.Common.{◌≡◌, List, [], ◌∷◌, Some, None, refl}
 use Rattle.cerco_base.specs.Events.{Stopped, Ended}
-use Rattle.cerco_base.specs.Preservation.{Stops, Faults}
+use Rattle.cerco_traces.specs.Preservation.{Stops, Faults}
 use Rattle.cerco_base.specs.declared.events.FaultKind.TheVariants.{Unset, Outside, Dead, Zero, Compare}
-use Rattle.clight_syntax.specs.declared.tree.BinaryOperator.TheVariants.{Add, Subtract, Multiply, Divide, Remainder, Less, LessOrEqual, Equal, NotEqual, ShiftLeft, ShiftRight}
+use Rattle.clight_source.specs.declared.tree.BinaryOperator.TheVariants.{Add, Subtract, Multiply, Divide, Remainder, Less, LessOrEqual, Equal, NotEqual, ShiftLeft, ShiftRight}
 use Rattle.clight_syntax.specs.declared.typed.Home.TheVariants.{Global, Block, Scalar}
-use Rattle.clight_syntax.specs.Types.{Void, Pointer, Array, Struct, StructType}
+use Rattle.c_types.specs.Types.{Void, Pointer, Array, Struct, StructType}
 use Rattle.clight_syntax.specs.TypedTrees.{Expr, Stmt, TypedProgram}
 use Rattle.cerco_base.specs.declared.events.Label.{Label}
 use Rattle.clight_meaning.specs.Meaning.{again, calls, source}
-use Rattle.clight_syntax.specs.Conversions.{int, long}
-use Rattle.clight_syntax.specs.Trees as tree
+use Rattle.c_types.specs.Conversions.{int, long}
+use Rattle.clight_source.specs.Trees as tree
 use Rattle.clight_meaning.proofs.TreeForms.{nowhere, plain, L, R, P, char', signed_char, unsigned, var, number, binary, minus, contents, address, cast, at, member, arrow, truth, both, nothing, assignment, set, read, write, when, when_else, while, do_while, for, break, continue, return, block, target, call, local, function, variable, global, program, main_alone}
 
 -- unsigned char x; x=P1;

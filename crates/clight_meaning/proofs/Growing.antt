@@ -2,7 +2,7 @@
 use Rattle.std.proofs.Common.{◌≡◌, Bool, true, false, ℕ, zero, suc, ◌<◌, ◌≤◌, List, [], ◌∷◌, Option, Some, None, Result, Ok, Err, refl, sym, ap, subst, ◌∙◌, arith}
 use Rattle.std.specs.Prelude.{slice_get}
 use Rattle.cerco_base.specs.Events.{Stopped, Ended}
-use Rattle.cerco_base.specs.Preservation.{Outcome, Stops, Faults, and_then}
+use Rattle.cerco_traces.specs.Preservation.{Outcome, Stops, Faults, and_then}
 use Rattle.cerco_base.specs.declared.events.Event.{Event}
 use Rattle.cerco_base.specs.declared.events.Event.TheVariants as event
 use Rattle.cerco_base.specs.declared.events.Label.{Label}

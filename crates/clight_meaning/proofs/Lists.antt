@@ -3,7 +3,7 @@ use Rattle.std.proofs.Common.{◌≡◌, ℕ, suc, ◌+◌, ◌<◌, Bool, true,
 use Rattle.std.specs.Prelude.{if◌then◌else◌}
 use Rattle.cerco_base.specs.declared.events.FaultKind.{FaultKind}
 use Rattle.clight_syntax.specs.declared.typed.Variable.{Variable}
-use Rattle.clight_syntax.specs.Types.{type_of}
+use Rattle.c_types.specs.Types.{type_of}
 use Rattle.clight_syntax.specs.TypedTrees.{Expr, TypedProgram, type_at}
 use Rattle.clight_values.specs.declared.value.Value.{Value}
 use Rattle.clight_meaning.specs.declared.calls.Missing.{Missing}

@@ -2,7 +2,7 @@
 use Rattle.std.proofs.Common.{◌≡◌, Bool, true, false, ℕ, List, [], ◌∷◌, Option, Some, None, Result, Ok, Err, refl, ap, ◌∙◌}
 use Rattle.std.specs.Prelude.{slice_get}
 use Rattle.cerco_base.specs.Events.{Ended}
-use Rattle.cerco_base.specs.Preservation.{Stops, Faults}
+use Rattle.cerco_traces.specs.Preservation.{Stops, Faults}
 use Rattle.cerco_base.specs.declared.events.Event.TheVariants as event
 use Rattle.cerco_base.specs.declared.events.Label.{Label}
 use Rattle.cerco_base.specs.declared.events.Port.TheVariants.{P1}

@@ -3,10 +3,10 @@ use Rattle.std.proofs.Common.{◌≡◌, List, [], ◌∷◌, ◌++◌, refl, ap
 use Rattle.std.proofs.Common.{map, Vec, Global}
 use Rattle.std.proofs.lemmas.List.{append-nil}
 use Rattle.clight_syntax.specs.TypedTrees as t
-use Rattle.clight_syntax.specs.TypedViews.{stmt_of, stmts_of, stmts_onto}
+use Rattle.clight_syntax.specs.Code.TypedViews.{stmt_of, stmts_of, stmts_onto}
 use Rattle.clight_syntax.specs.declared.typed.Stmt.{Stmt}
 use Rattle.clight_syntax.specs.declared.typed.Stmt.TheVariants.{Block}
-use Rattle.clight_syntax.specs.declared.span.Span.{Span}
+use Rattle.clight_source.specs.declared.span.Span.{Span}
 use Rattle.clight_syntax.proofs.TypedRows.{block_is}
 use Rattle.clight_values.specs.Memory.{State}
 use Rattle.cerco_base.specs.declared.events.Label.{Label}

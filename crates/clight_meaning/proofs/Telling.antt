@@ -1,12 +1,12 @@
 -- From what a step does to what its answer says.
 use Rattle.std.proofs.Common.{◌≡◌, ℕ, suc, ◌<◌, List, [], ◌∷◌, Option, Some, None, sym, ap, subst, ◌∙◌}
 use Rattle.cerco_base.specs.Events.{Ended}
-use Rattle.cerco_base.specs.Preservation.{Stops, Faults}
+use Rattle.cerco_traces.specs.Preservation.{Stops, Faults}
 use Rattle.cerco_base.specs.declared.events.Event.TheVariants as event
 use Rattle.cerco_base.specs.declared.events.Label.{Label}
 use Rattle.cerco_base.specs.declared.events.FaultKind.{FaultKind}
 use Rattle.clight_syntax.specs.TypedTrees.{TypedProgram}
-use Rattle.clight_syntax.specs.TypedViews.{program_of}
+use Rattle.clight_syntax.specs.Code.TypedViews.{program_of}
 use Rattle.clight_meaning.specs.declared.turn.Turn.{Turn}
 use Rattle.clight_meaning.specs.declared.running.Running.{Running}
 use Rattle.clight_values.specs.Memory.{State}

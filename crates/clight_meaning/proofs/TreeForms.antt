@@ -4,19 +4,19 @@ use Rattle.cerco_base.specs.declared.events.Label.{Label}
 use Rattle.cerco_base.specs.declared.events.Event.{Event}
 use Rattle.cerco_base.specs.declared.events.Event.TheVariants as event
 use Rattle.cerco_base.specs.declared.events.Port.TheVariants.{P1}
-use Rattle.clight_syntax.specs.declared.span.Span.{Span}
-use Rattle.clight_syntax.specs.declared.tree.Name.{Name}
-use Rattle.clight_syntax.specs.declared.tree.BinaryOperator.{BinaryOperator}
-use Rattle.clight_syntax.specs.declared.tree.PrefixOperator.TheVariants as prefix
-use Rattle.clight_syntax.specs.declared.tree.MemberOperator.TheVariants.{Dot, Arrow}
-use Rattle.clight_syntax.specs.declared.tree.SignedNumber.{SignedNumber}
-use Rattle.clight_syntax.specs.declared.tree.Specifiers.TheVariants as words
-use Rattle.clight_syntax.specs.declared.symbol.Radix.TheVariants.{Decimal}
+use Rattle.clight_source.specs.declared.span.Span.{Span}
+use Rattle.clight_source.specs.declared.tree.Name.{Name}
+use Rattle.clight_source.specs.declared.tree.BinaryOperator.{BinaryOperator}
+use Rattle.clight_source.specs.declared.tree.PrefixOperator.TheVariants as prefix
+use Rattle.clight_source.specs.declared.tree.MemberOperator.TheVariants.{Dot, Arrow}
+use Rattle.clight_source.specs.declared.tree.SignedNumber.{SignedNumber}
+use Rattle.clight_source.specs.declared.tree.Specifiers.TheVariants as words
+use Rattle.clight_source.specs.declared.symbol.Radix.TheVariants.{Decimal}
 use Rattle.clight_syntax.specs.declared.typed.Home.{Home}
 use Rattle.clight_syntax.specs.declared.typed.ResultTarget.{ResultTarget}
-use Rattle.clight_syntax.specs.Conversions.{unsigned_char, unsigned_int}
-use Rattle.clight_syntax.specs.Trees as tree
-use Rattle.clight_syntax.specs.Types.{One, CType, Void, Integer, Pointer, StructType}
+use Rattle.c_types.specs.Conversions.{unsigned_char, unsigned_int}
+use Rattle.clight_source.specs.Trees as tree
+use Rattle.c_types.specs.Types.{One, CType, Void, Integer, Pointer, StructType}
 use Rattle.clight_syntax.specs.TypedTrees as t
 
 abbrev pub nowhere : Span

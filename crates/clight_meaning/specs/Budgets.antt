@@ -1,7 +1,7 @@
 -- How what is told of a run depends on the number of labels that it may pass.
 use Rattle.std.specs.Prelude.{◌≡◌, List}
 use Rattle.cerco_base.specs.Events.{IsPrefix, Stopped, Ended}
-use Rattle.cerco_base.specs.Preservation.{Outcome, Stops, Faults}
+use Rattle.cerco_traces.specs.Preservation.{Outcome, Stops, Faults}
 use Rattle.cerco_base.specs.declared.events.Event.{Event}
 use Rattle.cerco_base.specs.declared.events.FaultKind.{FaultKind}
 

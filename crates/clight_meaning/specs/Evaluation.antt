@@ -2,7 +2,7 @@
 -- for what goes on after each of its parts, and so for the rest of a run.
 use Rattle.std.specs.Prelude.{ℕ, Bool, true, false, not, List, [], ◌∷◌, Option, Some, None, Result, Ok, Err, slice_get}
 use Rattle.cerco_base.specs.Events.{Ended}
-use Rattle.cerco_base.specs.Preservation.{Stops, Faults}
+use Rattle.cerco_traces.specs.Preservation.{Stops, Faults}
 use Rattle.cerco_base.specs.declared.events.Event.{Event}
 use Rattle.cerco_base.specs.declared.events.Event.TheVariants as event
 use Rattle.cerco_base.specs.declared.events.Label.{Label}
@@ -10,8 +10,8 @@ use Rattle.cerco_base.specs.declared.events.Port.TheVariants.{P1}
 use Rattle.cerco_base.specs.declared.events.FaultKind.{FaultKind}
 use Rattle.cerco_base.specs.declared.events.FaultKind.TheVariants.{Outside}
 use Rattle.clight_syntax.specs.declared.typed.ResultTarget.{ResultTarget}
-use Rattle.clight_syntax.specs.Conversions.{unsigned_char}
-use Rattle.clight_syntax.specs.Types.{CType}
+use Rattle.c_types.specs.Conversions.{unsigned_char}
+use Rattle.c_types.specs.Types.{CType}
 use Rattle.clight_syntax.specs.TypedTrees as t
 use Rattle.clight_syntax.specs.TypedTrees.{type_at, Cond, Truth, InParentheses, Not, Both, Either, Stmt, Empty, Block, Assign, ReadPort, WritePort, CallOf, If, IfElse, While, Do, For, Break, Continue, Return, Stmts, NoStmts, Then, Function, TypedProgram}
 use Rattle.clight_values.specs.declared.value.Value.{Value}

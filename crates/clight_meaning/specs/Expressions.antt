@@ -4,11 +4,11 @@
 use Rattle.std.specs.Prelude.{ℕ, ◌+◌, false, Option, Some, None, Result, Ok, Err, if◌then◌else◌, slice_get, slice_set, unwrap_or}
 use Rattle.cerco_base.specs.declared.events.FaultKind.{FaultKind}
 use Rattle.cerco_base.specs.declared.events.FaultKind.TheVariants.{Outside}
-use Rattle.clight_syntax.specs.declared.tree.PrefixOperator.TheVariants.{Negate, Complement, Not, Dereference, AddressOf}
-use Rattle.clight_syntax.specs.declared.tree.MemberOperator.TheVariants.{Dot, Arrow}
+use Rattle.clight_source.specs.declared.tree.PrefixOperator.TheVariants.{Negate, Complement, Not, Dereference, AddressOf}
+use Rattle.clight_source.specs.declared.tree.MemberOperator.TheVariants.{Dot, Arrow}
 use Rattle.clight_syntax.specs.declared.typed.Home.{Home}
 use Rattle.clight_syntax.specs.declared.typed.Home.TheVariants.{Global, Block, Scalar}
-use Rattle.clight_syntax.specs.Types.{CType}
+use Rattle.c_types.specs.Types.{CType}
 use Rattle.clight_syntax.specs.TypedTrees.{Expr, Variable, Number, Parenthesis, Binary, Prefix, Cast, Index, Select, type_at, Variable', TypedProgram}
 use Rattle.clight_values.specs.declared.value.Value.{Value}
 use Rattle.clight_values.specs.declared.value.Value.TheVariants as v

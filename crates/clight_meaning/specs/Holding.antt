@@ -2,9 +2,9 @@
 use Rattle.std.specs.Prelude.{◌≡◌, List, [], ◌∷◌, map, Option, Some, None}
 use Rattle.cerco_base.specs.declared.events.FaultKind.{FaultKind}
 use Rattle.cerco_base.specs.declared.events.Label.{Label}
-use Rattle.clight_syntax.specs.Types.{type_of}
+use Rattle.c_types.specs.Types.{type_of}
 use Rattle.clight_syntax.specs.TypedTrees as t
-use Rattle.clight_syntax.specs.TypedViews.{stmt_of, cond_of}
+use Rattle.clight_syntax.specs.Code.TypedViews.{stmt_of, cond_of}
 use Rattle.clight_meaning.specs.declared.turn.Turn.{Turn}
 use Rattle.clight_meaning.specs.declared.turn.Turn.TheVariants as turn
 use Rattle.clight_meaning.specs.declared.running.Way.{Way}

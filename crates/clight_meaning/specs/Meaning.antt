@@ -3,7 +3,7 @@
 -- due, or `main` returns, or it meets a fault. A statement is given what goes on after it, by the way in which it is left.
 use Rattle.std.specs.Prelude.{ℕ, zero, suc, ◌+◌, Bool, true, false, List, [], ◌∷◌, ◌++◌, length, take, drop, map, Option, Some, None, Result, Ok, Err, if◌then◌else◌, slice_get}
 use Rattle.cerco_base.specs.Events.{Stopped, Ended}
-use Rattle.cerco_base.specs.Preservation.{Outcome, Stops, Faults, Source, and_then}
+use Rattle.cerco_traces.specs.Preservation.{Outcome, Stops, Faults, Source, and_then}
 use Rattle.cerco_base.specs.declared.events.Event.{Event}
 use Rattle.cerco_base.specs.declared.events.Event.TheVariants as event
 use Rattle.cerco_base.specs.declared.events.Label.{Label}
@@ -13,9 +13,9 @@ use Rattle.cerco_base.specs.declared.events.FaultKind.TheVariants.{Outside}
 use Rattle.clight_syntax.specs.declared.typed.Home.{Home}
 use Rattle.clight_syntax.specs.declared.typed.Home.TheVariants as home
 use Rattle.clight_syntax.specs.declared.typed.ResultTarget.{ResultTarget}
-use Rattle.clight_syntax.specs.Trees.{Global}
-use Rattle.clight_syntax.specs.Conversions.{unsigned_char}
-use Rattle.clight_syntax.specs.Types.{CType, Void}
+use Rattle.clight_source.specs.Trees.{Global}
+use Rattle.c_types.specs.Conversions.{unsigned_char}
+use Rattle.c_types.specs.Types.{CType, Void}
 use Rattle.clight_syntax.specs.TypedTrees.{Expr, type_at, Cond, Truth, InParentheses, Not, Both, Either, Assignment, EarlierArgument, Arguments, NoArguments, Arguments', Stmt, Empty, Block, Assign, ReadPort, WritePort, CallOf, If, IfElse, While, Do, For, Break, Continue, Return, Stmts, NoStmts, Then, LocalInitialiser, NoValue, Value, Local, Function, Item, StructItem, GlobalItem, PrototypeItem, FunctionItem, Variable', TypedProgram}
 use Rattle.clight_values.specs.declared.value.Value as w
 use Rattle.clight_values.specs.declared.value.Value.TheVariants as v

@@ -1,10 +1,10 @@
 -- What an evaluator's answers say of the rest of a run.
 use Rattle.std.specs.Prelude.{◌≡◌, ℕ, suc, [], ◌∷◌}
 use Rattle.cerco_base.specs.Events.{Stopped, Ended}
-use Rattle.cerco_base.specs.Preservation.{Stops, Faults, and_then}
+use Rattle.cerco_traces.specs.Preservation.{Stops, Faults, and_then}
 use Rattle.cerco_base.specs.declared.events.Event.TheVariants as event
 use Rattle.cerco_base.specs.declared.events.FaultKind.{FaultKind}
-use Rattle.clight_syntax.specs.TypedViews.{program_of}
+use Rattle.clight_syntax.specs.Code.TypedViews.{program_of}
 use Rattle.clight_meaning.specs.declared.turn.Turn.{Turn}
 use Rattle.clight_meaning.specs.declared.turn.Turn.TheVariants as turn
 use Rattle.clight_meaning.specs.declared.running.Running.{Running}

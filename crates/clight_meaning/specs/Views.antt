@@ -1,7 +1,7 @@
 -- What the evaluator holds, as the definitions speak of it.
 use Rattle.std.specs.Prelude.{option_map, Option, Result, Ok, Err}
 use Rattle.cerco_base.specs.declared.events.FaultKind.{FaultKind}
-use Rattle.clight_syntax.specs.TypedViews.{assignment_of}
+use Rattle.clight_syntax.specs.Code.TypedViews.{assignment_of}
 use Rattle.clight_syntax.specs.TypedTrees as t
 use Rattle.clight_syntax.specs.declared.typed.Assignment.{Assignment}
 use Rattle.clight_syntax.specs.TypedTrees.{Variable'}

@@ -1,7 +1,7 @@
 //! How a run begins.
 ghost use Rattle.std.specs.Prelude.{◌≡◌, [], ◌∷◌, List, IfOk, OnOk};
 ghost use Rattle.clight_syntax.specs.TypedTrees as t;
-ghost use Rattle.clight_syntax.specs.TypedViews.{function_of, item_of, program_of};
+ghost use Rattle.clight_syntax.specs.Code.TypedViews.{function_of, item_of, program_of};
 ghost use Rattle.clight_values.specs.Memory as m;
 ghost use Rattle.clight_meaning.specs.Meaning as e;
 ghost use Rattle.clight_meaning.specs.Evaluation as n;

@@ -1,7 +1,7 @@
 //! How a call begins and ends.
 ghost use Rattle.std.specs.Prelude.{◌≡◌, ℕ, ◌+◌, ◌++◌, ◌<◌, ◌^◌, drop, length, map, take, IfOk, OnOk, MatchResult, Ok};
-ghost use Rattle.clight_syntax.specs.Types.{type_of};
-ghost use Rattle.clight_syntax.specs.TypedViews.{arguments_of, expr_of, function_of, local_of, local_initialiser_of, program_of};
+ghost use Rattle.c_types.specs.Types.{type_of};
+ghost use Rattle.clight_syntax.specs.Code.TypedViews.{arguments_of, expr_of, function_of, local_of, local_initialiser_of, program_of};
 ghost use Rattle.clight_syntax.specs.TypedTrees.{type_at};
 ghost use Rattle.clight_values.specs.Memory as m;
 ghost use Rattle.clight_meaning.specs.Expressions as e;
@@ -13,7 +13,7 @@ ghost use Rattle.clight_meaning.specs.Views.{frame_held, state_held};
 use crate::state::{Frame, State, type_at};
 use crate::statements::{converted_to, variable_type};
 use cerco_base::{FaultKind, Label, NoMemory};
-use clight_syntax::Ty;
+use c_types::Ty;
 use clight_syntax::typed::{
     Arguments, Expr, Function, Home, Local, LocalInitialiser, StructType, TypedProgram, Variable,
 };

@@ -1,7 +1,7 @@
 //! The evaluator of labelled programs.
 ghost use Rattle.std.specs.Prelude.{◌≡◌, ◌+◌, ◌<◌, ◌≤◌, ◌^◌, IfOk, IsErr, OnErr, true, false};
 ghost use Rattle.cerco_base.specs.declared.events.FaultKind.{FaultKind};
-ghost use Rattle.clight_syntax.specs.TypedViews.{labelled_of};
+ghost use Rattle.clight_syntax.specs.Code.TypedViews.{labelled_of};
 ghost use Rattle.clight_meaning.specs.Meaning.{source};
 ghost use Rattle.clight_meaning.specs.Turns.{rest, Tells, OnlyEnds, OnlyFaults, labels_told};
 

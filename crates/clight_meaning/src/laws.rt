@@ -1,7 +1,7 @@
 //! What the meaning of programs says of itself.
 ghost use Rattle.std.specs.Prelude.{◌≡◌, ℕ, suc, List, [], Some, slice_get};
 ghost use Rattle.cerco_base.specs.Events.{Stopped};
-ghost use Rattle.cerco_base.specs.Preservation.{Stops};
+ghost use Rattle.cerco_traces.specs.Preservation.{Stops};
 ghost use Rattle.cerco_base.specs.declared.events.Label.{Label};
 ghost use Rattle.clight_syntax.specs.TypedTrees.{Function, TypedProgram};
 ghost use Rattle.clight_meaning.specs.Budgets.{Extends};

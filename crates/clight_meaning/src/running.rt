@@ -1,9 +1,9 @@
 //! A run, step by step, with what is left to do as a list of work.
 ghost use Rattle.std.specs.Prelude.{◌≡◌, ℕ, ◌∷◌, IfOk, MatchOption, Ok, OnOk, Result, if◌then◌else◌, List, MatchResult, map, option_copied, option_map, slice_get};
-ghost use Rattle.clight_syntax.specs.Conversions.{unsigned_char};
-ghost use Rattle.clight_syntax.specs.Types.{type_of};
+ghost use Rattle.c_types.specs.Conversions.{unsigned_char};
+ghost use Rattle.c_types.specs.Types.{type_of};
 ghost use Rattle.clight_syntax.specs.TypedTrees.{type_at};
-ghost use Rattle.clight_syntax.specs.TypedViews.{assignment_of, call_of, cond_of, expr_of, function_of, program_of, stmt_of};
+ghost use Rattle.clight_syntax.specs.Code.TypedViews.{assignment_of, call_of, cond_of, expr_of, function_of, program_of, stmt_of};
 ghost use Rattle.clight_meaning.specs.Expressions as x;
 ghost use Rattle.clight_meaning.specs.Meaning as e;
 ghost use Rattle.clight_meaning.specs.Evaluation as n;
@@ -19,7 +19,7 @@ use crate::state::{Frame, State, type_at};
 use crate::statements::{converted_to, initial_of};
 use crate::turn::Turn;
 use cerco_base::{Event, FaultKind, Label, NoMemory, Port};
-use clight_syntax::Ty;
+use c_types::Ty;
 use clight_syntax::typed::{
     Assignment, Call, Cond, Expr, ForHead, Function, ResultTarget, Stmt, Test, TypedProgram,
 };

@@ -1,7 +1,7 @@
 //! The state of a run, and the values of expressions in it.
 ghost use Rattle.std.specs.Prelude.{◌≡◌, ℕ, ◌^◌, min, slice_get, unwrap_or, false};
-ghost use Rattle.clight_syntax.specs.Types.{type_of, size_of};
-ghost use Rattle.clight_syntax.specs.TypedViews.{expr_of, program_of};
+ghost use Rattle.c_types.specs.Types.{type_of, size_of};
+ghost use Rattle.clight_syntax.specs.Code.TypedViews.{expr_of, program_of};
 ghost use Rattle.clight_syntax.specs.TypedTrees.{type_at};
 ghost use Rattle.clight_values.specs.Memory as m;
 ghost use Rattle.clight_values.specs.Operators as o;
@@ -10,8 +10,8 @@ ghost use Rattle.clight_values.specs.Views.{Becomes, integer_held, integers_held
 ghost use Rattle.clight_meaning.specs.Views.{frame_held, position_held, positions_held, state_held};
 
 use cerco_base::{FaultKind, Label};
-use clight_syntax::Ty;
-use clight_syntax::tree::{BinaryOperator, MemberOperator, PrefixOperator};
+use c_types::Ty;
+use clight_source::tree::{BinaryOperator, MemberOperator, PrefixOperator};
 use clight_syntax::typed::{Expr, Home, StructType, TypedProgram, Variable};
 use clight_values::lookup::item_at;
 use clight_values::memory::{Memory, size_of as bytes_in};

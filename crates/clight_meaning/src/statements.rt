@@ -1,7 +1,7 @@
 //! What statements do to the state of a run.
 ghost use Rattle.std.specs.Prelude.{◌≡◌, ℕ, drop, length, take, slice_get, MatchResult, Ok};
-ghost use Rattle.clight_syntax.specs.Types.{type_of};
-ghost use Rattle.clight_syntax.specs.TypedViews.{assignment_of, expr_of, program_of};
+ghost use Rattle.c_types.specs.Types.{type_of};
+ghost use Rattle.clight_syntax.specs.Code.TypedViews.{assignment_of, expr_of, program_of};
 ghost use Rattle.clight_values.specs.Memory as m;
 ghost use Rattle.clight_meaning.specs.Meaning as n;
 ghost use Rattle.clight_values.specs.Views.{Makes, type_held, variables_held};
@@ -9,7 +9,7 @@ ghost use Rattle.clight_meaning.specs.Views.{assignments_held, positions_held, s
 
 use crate::state::{Position, State, type_at};
 use cerco_base::{FaultKind, Label};
-use clight_syntax::Ty;
+use c_types::Ty;
 use clight_syntax::typed::{Assignment, Expr, ResultTarget, TypedProgram, Variable};
 use clight_values::lookup::item_at;
 use clight_values::memory::initial;

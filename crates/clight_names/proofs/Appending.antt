@@ -5,17 +5,17 @@ use Rattle.std.specs.List.{flat_map}
 use Rattle.std.proofs.lemmas.List.{take_more, map-append, append-nil, length-map, length-take-le}
 use Rattle.std.proofs.lemmas.List.Concat.{flat_map-cons}
 use Rattle.std.proofs.lemmas.Grind.{flat_map-append}
-use Rattle.cerco_base.specs.declared.faults.NoMemory.{NoMemory}
-use Rattle.clight_syntax.specs.declared.span.Span.{Span}
-use Rattle.clight_syntax.specs.declared.tree.Stmt.{Stmt}
-use Rattle.clight_syntax.specs.declared.tree.Stmt.TheVariants.{Block}
-use Rattle.clight_syntax.specs.Trees.{Item}
-use Rattle.clight_syntax.specs.declared.tree.Item.{Item as HeldItem}
-use Rattle.clight_syntax.specs.Views.{stmt_of, stmts_of, item_of}
+use Rattle.cerco_base.specs.declared.no_memory.NoMemory.{NoMemory}
+use Rattle.clight_source.specs.declared.span.Span.{Span}
+use Rattle.clight_source.specs.declared.tree.Stmt.{Stmt}
+use Rattle.clight_source.specs.declared.tree.Stmt.TheVariants.{Block}
+use Rattle.clight_source.specs.Trees.{Item}
+use Rattle.clight_source.specs.declared.tree.Item.{Item as HeldItem}
+use Rattle.clight_source.specs.Code.Views.{stmt_of, stmts_of, item_of}
 use Rattle.clight_names.specs.declared.occurrences.Occurrence.{Occurrence}
 use Rattle.clight_names.specs.Occurrences.{stmt_names, stmts_names, item_names, names_from}
 use Rattle.clight_names.proofs.Rows.{block_is, stmts_onto-more}
-use Rattle.clight_syntax.specs.Trees as p
+use Rattle.clight_source.specs.Trees as p
 
 pub two_added : (old one all p q : List Occurrence) → one ≡ old ++ p → all ≡ one ++ q → all ≡ old ++ (p ++ q)
 two_added old one all p q e f = f ∙ ap (λ l. l ++ q) e ∙ append_assoc old p q

@@ -3,16 +3,16 @@ use Rattle.std.proofs.Common.{◌≡◌, ℕ, ◌+◌, Bool, false, List, [], �
 use Rattle.std.specs.Prelude.{Option, Some, None, codes, replicate}
 use Rattle.cerco_base.specs.declared.reasons.NameKind.{NameKind}
 use Rattle.cerco_base.specs.declared.reasons.NameKind.TheVariants as n
-use Rattle.clight_syntax.specs.declared.span.Span.{Span}
-use Rattle.clight_syntax.specs.declared.symbol.Literal.{Literal}
-use Rattle.clight_syntax.specs.declared.symbol.Radix.{Radix}
-use Rattle.clight_syntax.specs.declared.symbol.Radix.TheVariants.{Decimal}
-use Rattle.clight_syntax.specs.declared.tree.Name.{Name}
-use Rattle.clight_syntax.specs.declared.tree.MemberOperator.TheVariants as m
-use Rattle.clight_syntax.specs.declared.tree.Specifiers.{Specifiers}
-use Rattle.clight_syntax.specs.declared.tree.Specifiers.TheVariants as t
-use Rattle.clight_syntax.specs.declared.tree.Length.{Length}
-use Rattle.clight_syntax.specs.Trees.{Expr, Variable, Number, Cast, Select, Stmt, Assign, CallOf, Stmts, NoStmts, Then, Arguments, NoArguments, Arguments', Declared, Declaration, Parameters, NoParameters, Parameters', Header, Local, NoValue, Value, NoInitialiser, Item, StructItem, GlobalItem, PrototypeItem, FunctionItem, Program}
+use Rattle.clight_source.specs.declared.span.Span.{Span}
+use Rattle.clight_source.specs.declared.symbol.Literal.{Literal}
+use Rattle.clight_source.specs.declared.symbol.Radix.{Radix}
+use Rattle.clight_source.specs.declared.symbol.Radix.TheVariants.{Decimal}
+use Rattle.clight_source.specs.declared.tree.Name.{Name}
+use Rattle.clight_source.specs.declared.tree.MemberOperator.TheVariants as m
+use Rattle.clight_source.specs.declared.tree.Specifiers.{Specifiers}
+use Rattle.clight_source.specs.declared.tree.Specifiers.TheVariants as t
+use Rattle.clight_source.specs.declared.tree.Length.{Length}
+use Rattle.clight_source.specs.Trees.{Expr, Variable, Number, Cast, Select, Stmt, Assign, CallOf, Stmts, NoStmts, Then, Arguments, NoArguments, Arguments', Declared, Declaration, Parameters, NoParameters, Parameters', Header, Local, NoValue, Value, NoInitialiser, Item, StructItem, GlobalItem, PrototypeItem, FunctionItem, Program}
 use Rattle.clight_names.specs.NameFaults.{first_name_fault, NameFault}
 
 -- ---- pieces of programs

@@ -3,7 +3,7 @@
 use Rattle.std.specs.Prelude.{ℕ, Bool, true, false, ◌&&◌, ◌||◌, not, List, [], ◌∷◌, ◌++◌, length, nat_eq, nat_lt, slice_index_or, Option, Some, None, if◌then◌else◌}
 use Rattle.cerco_base.specs.declared.reasons.NameKind.{NameKind}
 use Rattle.cerco_base.specs.declared.reasons.NameKind.TheVariants as k
-use Rattle.clight_syntax.specs.Trees.{Program}
+use Rattle.clight_source.specs.Trees.{Program}
 use Rattle.clight_names.specs.Spellings.{main_name}
 use Rattle.clight_names.specs.declared.occurrences.Role.{Role}
 use Rattle.clight_names.specs.declared.occurrences.Role.TheVariants as r

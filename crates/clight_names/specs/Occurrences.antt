@@ -2,11 +2,11 @@
 -- 6.9, in the compiler's profile).
 use Rattle.std.specs.Prelude.{ℕ, suc, Bool, true, false, ◌&&◌, not, List, [], ◌∷◌, ◌++◌, Option, Some, None}
 use Rattle.std.specs.List.{flat_map}
-use Rattle.clight_syntax.specs.declared.tree.Name.{Name}
-use Rattle.clight_syntax.specs.declared.tree.CallTarget.{CallTarget}
-use Rattle.clight_syntax.specs.declared.tree.Specifiers.{Specifiers}
-use Rattle.clight_syntax.specs.declared.tree.Specifiers.TheVariants as w
-use Rattle.clight_syntax.specs.Trees.{Expr, Variable, Number, Parenthesis, Binary, Prefix, Cast, Index, Select, Assignment, EarlierArgument, Arguments, NoArguments, Arguments', Call, ForHead, Stmt, Empty, Block, Assign, ReadPort, WritePort, CallOf, If, IfElse, While, Do, For, Break, Continue, Return, Stmts, NoStmts, Then, Declared, Member, Struct, EarlierParameter, Parameters, NoParameters, Parameters', Header, LocalInitialiser, NoValue, Value, Local, Function, Item, StructItem, GlobalItem, PrototypeItem, FunctionItem, Program}
+use Rattle.clight_source.specs.declared.tree.Name.{Name}
+use Rattle.clight_source.specs.declared.tree.CallTarget.{CallTarget}
+use Rattle.clight_source.specs.declared.tree.Specifiers.{Specifiers}
+use Rattle.clight_source.specs.declared.tree.Specifiers.TheVariants as w
+use Rattle.clight_source.specs.Trees.{Expr, Variable, Number, Parenthesis, Binary, Prefix, Cast, Index, Select, Assignment, EarlierArgument, Arguments, NoArguments, Arguments', Call, ForHead, Stmt, Empty, Block, Assign, ReadPort, WritePort, CallOf, If, IfElse, While, Do, For, Break, Continue, Return, Stmts, NoStmts, Then, Declared, Member, Struct, EarlierParameter, Parameters, NoParameters, Parameters', Header, LocalInitialiser, NoValue, Value, Local, Function, Item, StructItem, GlobalItem, PrototypeItem, FunctionItem, Program}
 use Rattle.clight_names.specs.declared.occurrences.Role.{Role}
 use Rattle.clight_names.specs.declared.occurrences.Role.TheVariants as r
 use Rattle.clight_names.specs.declared.occurrences.Occurrence.{Occurrence}

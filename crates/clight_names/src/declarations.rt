@@ -1,14 +1,14 @@
 //! The names of declarations and of whole programs.
 ghost use Rattle.std.specs.Prelude.{◌≡◌, ◌++◌, ℕ, [], map, IfOk, OnOk};
 ghost use Rattle.std.specs.List.{flat_map};
-ghost use Rattle.clight_syntax.specs.Views.{declared_of, member_of, struct_of, earlier_parameter_of, parameters_of, header_of, local_initialiser_of, local_of, function_of, item_of, program_of};
+ghost use Rattle.clight_source.specs.Code.Views.{declared_of, member_of, struct_of, earlier_parameter_of, parameters_of, header_of, local_initialiser_of, local_of, function_of, item_of, program_of};
 ghost use Rattle.clight_names.specs.Occurrences.{is_plain as is_plain_lem, declared_names, member_names, struct_names, local_declared, earlier_parameter_names, parameters_names, header_names, first_value_names, local_names, function_names, item_names, names_from, all_names};
 
 use crate::expressions::add_expr;
 use crate::occurrences::{Occurrence, Role, add_name, add_words};
 use crate::statements::add_stmts;
 use cerco_base::NoMemory;
-use clight_syntax::tree::{
+use clight_source::tree::{
     Declared, EarlierParameter, Function, Header, Item, Local, LocalInitialiser, Member,
     Parameters, Program, Specifiers, StructDefinition,
 };

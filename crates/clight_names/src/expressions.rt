@@ -2,12 +2,12 @@
 ghost use Rattle.std.specs.Prelude.{◌≡◌, ◌++◌, map, OnOk};
 ghost use Rattle.std.specs.Option.{option_map};
 ghost use Rattle.std.specs.List.{flat_map};
-ghost use Rattle.clight_syntax.specs.Views.{expr_of, assignment_of, earlier_argument_of, arguments_of, call_of};
+ghost use Rattle.clight_source.specs.Code.Views.{expr_of, assignment_of, earlier_argument_of, arguments_of, call_of};
 ghost use Rattle.clight_names.specs.Occurrences.{expr_names, optional_names, assignment_names, earlier_names, arguments_names, target_names, call_names};
 
 use crate::occurrences::{Occurrence, Role, add_name, add_words};
 use cerco_base::NoMemory;
-use clight_syntax::tree::{Arguments, Assignment, Call, CallTarget, EarlierArgument, Expr};
+use clight_source::tree::{Arguments, Assignment, Call, CallTarget, EarlierArgument, Expr};
 
 /// Adds the names of an expression in the function that is this item.
 #[tactic(auto, using(crate::proofs::Appending::two_added))]

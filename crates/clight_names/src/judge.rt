@@ -2,7 +2,7 @@
 ghost use Rattle.std.specs.Prelude.{◌≡◌, ◌++◌, ◌∷◌, [], List, IfOk, OnOk};
 ghost use Rattle.cerco_base.specs.declared.reasons.Fault.TheVariants as f;
 ghost use Rattle.cerco_base.specs.declared.reasons.Reason.TheVariants as r;
-ghost use Rattle.clight_syntax.specs.Views.{program_of};
+ghost use Rattle.clight_source.specs.Code.Views.{program_of};
 ghost use Rattle.clight_names.specs.declared.occurrences.Occurrence.{Occurrence};
 ghost use Rattle.clight_names.specs.Spellings.{main_name as main_name_lem};
 ghost use Rattle.clight_names.specs.Knowledge.{AreDefined};
@@ -14,7 +14,7 @@ use crate::kinds::{kind_of, main_name};
 use crate::known::{Known, is_definition};
 use crate::occurrences::Occurrence;
 use cerco_base::{Fault, NameKind, NoMemory, Reason};
-use clight_syntax::{Names, Program};
+use clight_source::{Names, Program};
 use indexmap::IndexSet;
 use std::alloc::Global;
 

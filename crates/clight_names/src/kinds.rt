@@ -9,7 +9,7 @@ ghost use Rattle.clight_names.specs.NameFaults.{is_reserved as is_reserved_lem, 
 use crate::known::{Known, is_prototype};
 use crate::occurrences::{Occurrence, Role};
 use cerco_base::{NameKind, NoMemory};
-use clight_syntax::Names;
+use clight_source::Names;
 use indexmap::IndexSet;
 
 const GREATEST_NAME: usize = 63;

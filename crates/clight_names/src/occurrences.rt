@@ -3,10 +3,10 @@ ghost use Rattle.std.specs.Prelude.{◌≡◌, ◌++◌, ◌∷◌, [], OnOk, On
 ghost use Rattle.clight_names.specs.Occurrences.{occurs, words_names};
 
 use cerco_base::NoMemory;
-use clight_syntax::tree::{Name, Specifiers};
+use clight_source::tree::{Name, Specifiers};
 
 /// What a name does where it stands. Items of the program are meant by their numbers, from 0.
-#[derive(Clone, Copy, Debug, PartialEq, Eq)]
+#[derive(Clone, Copy)]
 pub enum Role {
     /// It is the tag of a struct that is defined here.
     DefinesTag,
@@ -30,7 +30,7 @@ pub enum Role {
 }
 
 /// A name at a place of the text.
-#[derive(Clone, Copy, Debug, PartialEq, Eq)]
+#[derive(Clone, Copy)]
 pub struct Occurrence {
     pub name: Name,
     pub role: Role,

@@ -1,6 +1,6 @@
 //! The names of statements.
 ghost use Rattle.std.specs.Prelude.{◌≡◌, ◌++◌, OnOk};
-ghost use Rattle.clight_syntax.specs.Views.{for_head_of, stmt_of, stmts_of};
+ghost use Rattle.clight_source.specs.Code.Views.{for_head_of, stmt_of, stmts_of};
 ghost use Rattle.clight_names.specs.Occurrences.{for_names, stmt_names, stmts_names};
 
 use crate::expressions::{
@@ -8,7 +8,7 @@ use crate::expressions::{
 };
 use crate::occurrences::Occurrence;
 use cerco_base::NoMemory;
-use clight_syntax::tree::{ForHead, Stmt};
+use clight_source::tree::{ForHead, Stmt};
 
 // Adds the names that stand before the body of a `for`.
 #[tactic(auto, using(crate::proofs::Appending::three_added))]

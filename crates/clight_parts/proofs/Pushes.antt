@@ -1,12 +1,12 @@
 -- How the views of lists grow.
 use Rattle.std.proofs.Common.{◌≡◌, List, [], ◌∷◌, ◌++◌, refl, ap, ◌∙◌, MatchOption, Option, Some, None}
 use Rattle.std.proofs.lemmas.List.{map-append}
-use Rattle.clight_syntax.specs.declared.span.Span.{Span}
-use Rattle.clight_syntax.specs.declared.tree.Stmt.{Stmt, Row_of-Stmt, end_of-Stmt, more_of-Stmt, items-the_row-Stmt, items_hidden-the_row-Stmt-0}
-use Rattle.clight_syntax.specs.declared.tree.Stmt.TheVariants as s
-use Rattle.clight_syntax.specs.declared.tree.Stmt.TheBlock.{hidden-the_row-Stmt-0}
-use Rattle.clight_syntax.specs.Trees as t
-use Rattle.clight_syntax.specs.Views.{stmt_of, stmts_of, stmts_onto, row_onto}
+use Rattle.clight_source.specs.declared.span.Span.{Span}
+use Rattle.clight_source.specs.declared.tree.Stmt.{Stmt, Row_of-Stmt, end_of-Stmt, more_of-Stmt, items-the_row-Stmt, items_hidden-the_row-Stmt-0}
+use Rattle.clight_source.specs.declared.tree.Stmt.TheVariants as s
+use Rattle.clight_source.specs.declared.tree.Stmt.TheBlock.{hidden-the_row-Stmt-0}
+use Rattle.clight_source.specs.Trees as t
+use Rattle.clight_source.specs.Code.Views.{stmt_of, stmts_of, stmts_onto, row_onto}
 use Rattle.clight_parts.specs.declared.forms.Form.{Form}
 use Rattle.clight_parts.specs.Builds.{limited}
 use Rattle.clight_parts.specs.Forms as o

@@ -6,11 +6,11 @@
 -- The program has `Part<T>`, `Noted<T>` and `Statements` for the three records here, and a function for each definition over
 -- them, in the form that it has at `limited`.
 use Rattle.std.specs.Prelude.{ℕ, ◌+◌, min, max, cond, nat_le, nat_lt, length, Option, Some, None, false}
-use Rattle.clight_syntax.specs.declared.span.Span.{Span}
-use Rattle.clight_syntax.specs.declared.symbol.Literal.{Literal}
-use Rattle.clight_syntax.specs.declared.symbol.Radix.TheVariants.{Decimal}
-use Rattle.clight_syntax.specs.Trees.{Expr, Number, Stmt, Empty, Stmts, NoStmts, Then, Declared, Declaration}
-use Rattle.clight_syntax.specs.Depth.{depth_limit, declaration_depth, declared_start}
+use Rattle.clight_source.specs.declared.span.Span.{Span}
+use Rattle.clight_source.specs.declared.symbol.Literal.{Literal}
+use Rattle.clight_source.specs.declared.symbol.Radix.TheVariants.{Decimal}
+use Rattle.clight_source.specs.Trees.{Expr, Number, Stmt, Empty, Stmts, NoStmts, Then, Declared, Declaration}
+use Rattle.clight_source.specs.Depth.{depth_limit, declaration_depth, declared_start}
 
 pub data Build : Type 0 where
   trees : Build

@@ -4,17 +4,17 @@
 -- The program has an enum `Form` with a variant for each constructor here, a `Vec<Form>` with the innermost form last, and an
 -- enum `Mode` with a variant for each constructor of `Mode`, whose fields are those here without the open forms.
 use Rattle.std.specs.Prelude.{List, Option}
-use Rattle.clight_syntax.specs.declared.span.Span.{Span}
-use Rattle.clight_syntax.specs.declared.symbol.Literal.{Literal}
-use Rattle.clight_syntax.specs.declared.tree.Name.{Name}
-use Rattle.clight_syntax.specs.declared.tree.BinaryOperator.{BinaryOperator}
-use Rattle.clight_syntax.specs.declared.tree.PrefixOperator.{PrefixOperator}
-use Rattle.clight_syntax.specs.declared.tree.MemberOperator.{MemberOperator}
-use Rattle.clight_syntax.specs.declared.tree.Specifiers.{Specifiers}
-use Rattle.clight_syntax.specs.declared.tree.CallTarget.{CallTarget}
-use Rattle.clight_syntax.specs.declared.tree.SignedNumber.{SignedNumber}
-use Rattle.clight_syntax.specs.declared.tree.EarlierNumber.{EarlierNumber}
-use Rattle.clight_syntax.specs.Trees.{EarlierArgument, Test, Call, ForHead, Declared, Declaration, Member, EarlierParameter, Header, Initialiser, Item}
+use Rattle.clight_source.specs.declared.span.Span.{Span}
+use Rattle.clight_source.specs.declared.symbol.Literal.{Literal}
+use Rattle.clight_source.specs.declared.tree.Name.{Name}
+use Rattle.clight_source.specs.declared.tree.BinaryOperator.{BinaryOperator}
+use Rattle.clight_source.specs.declared.tree.PrefixOperator.{PrefixOperator}
+use Rattle.clight_source.specs.declared.tree.MemberOperator.{MemberOperator}
+use Rattle.clight_source.specs.declared.tree.Specifiers.{Specifiers}
+use Rattle.clight_source.specs.declared.tree.CallTarget.{CallTarget}
+use Rattle.clight_source.specs.declared.tree.SignedNumber.{SignedNumber}
+use Rattle.clight_source.specs.declared.tree.EarlierNumber.{EarlierNumber}
+use Rattle.clight_source.specs.Trees.{EarlierArgument, Test, Call, ForHead, Declared, Declaration, Member, EarlierParameter, Header, Initialiser, Item}
 use Rattle.clight_parts.specs.Builds.{Build, NotedOf, StatementsOf}
 use Rattle.clight_parts.specs.Nodes.{ExprOf, StmtOf, ForStart, ForMiddle, StructFront, FunctionFront}
 

@@ -4,10 +4,10 @@
 -- The program runs `step limited`: it holds the items with their note, the open forms and the mode, and its own step does
 -- what `step limited` does to what these stand for.
 use Rattle.std.specs.Prelude.{Bool, true, false, List, [], ◌∷◌, Option, Some, None}
-use Rattle.clight_syntax.specs.declared.span.Span.{Span}
-use Rattle.clight_syntax.specs.declared.symbol.Symbol.{Symbol}
-use Rattle.clight_syntax.specs.declared.symbol.Terminal.{Terminal}
-use Rattle.clight_syntax.specs.Trees.{Item}
+use Rattle.clight_source.specs.declared.span.Span.{Span}
+use Rattle.clight_source.specs.declared.symbol.Symbol.{Symbol}
+use Rattle.clight_source.specs.declared.symbol.Terminal.{Terminal}
+use Rattle.clight_source.specs.Trees.{Item}
 use Rattle.clight_parts.specs.Builds.{Build, NotedOf}
 use Rattle.clight_parts.specs.Nodes.{no_items, more_items}
 use Rattle.clight_parts.specs.Forms.{InIfTest, InWhileTest, InDoTest, InSource, Mode, Operand, Behind, MemberName, CastTag, CastWords, Statement, MayElse, IfWord, WhileWord, DoBody, DoWhile, ForWord, ForFirst, ForCondition, ForStep, ReturnWord, PortWord, FirstArgument, StatementEnd, ItemStart, TypeStart, TagName, Words, Stars, Named, Lengths, LengthNumber, LengthEnd, Members, StructEnd, InitialiserStart, InitialiserNumber, InitialiserEnd, ListStart, ListNumber, ListEnd, HeaderEnd, Finished, Refused}

@@ -1,14 +1,14 @@
 -- How the parser reads statements. A whole statement ends each loop and each `else` that it is the last part of; over an `if`
 -- one token decides, which is `else` or not, so an `else` belongs to the nearest `if` that has none (ISO/IEC 9899:1999, 6.8).
 use Rattle.std.specs.Prelude.{List, [], ◌∷◌, Option, Some, None}
-use Rattle.clight_syntax.specs.declared.span.Span.{Span}
-use Rattle.clight_syntax.specs.declared.symbol.Symbol.{Symbol}
-use Rattle.clight_syntax.specs.declared.symbol.Symbol.TheVariants as s
-use Rattle.clight_syntax.specs.declared.tree.Name.{Name}
-use Rattle.clight_syntax.specs.declared.tree.MemberOperator.TheVariants as m
-use Rattle.clight_syntax.specs.declared.tree.Specifiers.{Specifiers}
-use Rattle.clight_syntax.specs.declared.tree.CallTarget.{CallTarget}
-use Rattle.clight_syntax.specs.Trees.{Expr, Assignment, EarlierArgument}
+use Rattle.clight_source.specs.declared.span.Span.{Span}
+use Rattle.clight_source.specs.declared.symbol.Symbol.{Symbol}
+use Rattle.clight_source.specs.declared.symbol.Symbol.TheVariants as s
+use Rattle.clight_source.specs.declared.tree.Name.{Name}
+use Rattle.clight_source.specs.declared.tree.MemberOperator.TheVariants as m
+use Rattle.clight_source.specs.declared.tree.Specifiers.{Specifiers}
+use Rattle.clight_source.specs.declared.tree.CallTarget.{CallTarget}
+use Rattle.clight_source.specs.Trees.{Expr, Assignment, EarlierArgument}
 use Rattle.clight_parts.specs.Builds.{Build, NotedOf, no_statements, more_statements, noted}
 use Rattle.clight_parts.specs.Nodes.{ExprOf, StmtOf, ForStart, ForMiddle, parenthesis, index, name_of, assignment, test, more_arguments, no_arguments, all_arguments, call, make_target, for_start, for_middle, for_head, nothing, just_expr, just_assignment, empty_statement, assign, read_port, write_port, call_statement, break_statement, continue_statement, return_statement, block, if_statement, if_else, while_statement, do_statement, for_statement, first_value, more_locals, function_item}
 use Rattle.clight_parts.specs.Forms.{AsStatement, AsFirst, AsStep, Form, InParenthesis, InIndex, InTarget, InValue, InPortValue, InArguments, InIfTest, InWhileTest, InDoTest, InCondition, InReturn, InLocalValue, InIf, InElse, InWhile, InDo, InFor, InBlock, InLocals, InBody, InFunction, Pending, CallPending, ReadPending, DoPending, BreakPending, ContinuePending, Mode, Operand, Behind, MemberName, Statement, MayElse, IfWord, WhileWord, DoBody, DoWhile, ForWord, ForFirst, ForCondition, ForStep, ReturnWord, PortWord, FirstArgument, StatementEnd, TagName, Words, Finished, Refused}

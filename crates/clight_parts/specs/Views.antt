@@ -1,25 +1,25 @@
 -- What the parser's parts, forms and modes stand for.
 use Rattle.std.specs.Prelude.{ℕ, List, [], ◌∷◌, map, option_map, Option}
-use Rattle.clight_syntax.specs.declared.tree.Expr.{Expr}
-use Rattle.clight_syntax.specs.declared.tree.Stmt.{Stmt}
-use Rattle.clight_syntax.specs.declared.tree.Assignment.{Assignment}
-use Rattle.clight_syntax.specs.declared.tree.Test.{Test}
-use Rattle.clight_syntax.specs.declared.tree.EarlierArgument.{EarlierArgument}
-use Rattle.clight_syntax.specs.declared.tree.Arguments.{Arguments}
-use Rattle.clight_syntax.specs.declared.tree.Call.{Call}
-use Rattle.clight_syntax.specs.declared.tree.ForHead.{ForHead}
-use Rattle.clight_syntax.specs.declared.tree.Member.{Member}
-use Rattle.clight_syntax.specs.declared.tree.Declaration.{Declaration}
-use Rattle.clight_syntax.specs.declared.tree.Declared.{Declared}
-use Rattle.clight_syntax.specs.declared.tree.EarlierParameter.{EarlierParameter}
-use Rattle.clight_syntax.specs.declared.tree.Parameters.{Parameters}
-use Rattle.clight_syntax.specs.declared.tree.Header.{Header}
-use Rattle.clight_syntax.specs.declared.tree.Local.{Local}
-use Rattle.clight_syntax.specs.declared.tree.LocalInitialiser.{LocalInitialiser}
-use Rattle.clight_syntax.specs.declared.tree.Item.{Item}
-use Rattle.clight_syntax.specs.declared.span.Span.{Span}
-use Rattle.clight_syntax.specs.Trees as t
-use Rattle.clight_syntax.specs.Views.{expr_of, stmt_of, stmts_of, assignment_of, test_of, earlier_argument_of, arguments_of, call_of, for_head_of, member_of, declaration_of, declared_of, earlier_parameter_of, parameters_of, header_of, local_of, local_initialiser_of, item_of, initialiser_of}
+use Rattle.clight_source.specs.declared.tree.Expr.{Expr}
+use Rattle.clight_source.specs.declared.tree.Stmt.{Stmt}
+use Rattle.clight_source.specs.declared.tree.Assignment.{Assignment}
+use Rattle.clight_source.specs.declared.tree.Test.{Test}
+use Rattle.clight_source.specs.declared.tree.EarlierArgument.{EarlierArgument}
+use Rattle.clight_source.specs.declared.tree.Arguments.{Arguments}
+use Rattle.clight_source.specs.declared.tree.Call.{Call}
+use Rattle.clight_source.specs.declared.tree.ForHead.{ForHead}
+use Rattle.clight_source.specs.declared.tree.Member.{Member}
+use Rattle.clight_source.specs.declared.tree.Declaration.{Declaration}
+use Rattle.clight_source.specs.declared.tree.Declared.{Declared}
+use Rattle.clight_source.specs.declared.tree.EarlierParameter.{EarlierParameter}
+use Rattle.clight_source.specs.declared.tree.Parameters.{Parameters}
+use Rattle.clight_source.specs.declared.tree.Header.{Header}
+use Rattle.clight_source.specs.declared.tree.Local.{Local}
+use Rattle.clight_source.specs.declared.tree.LocalInitialiser.{LocalInitialiser}
+use Rattle.clight_source.specs.declared.tree.Item.{Item}
+use Rattle.clight_source.specs.declared.span.Span.{Span}
+use Rattle.clight_source.specs.Trees as t
+use Rattle.clight_source.specs.Code.Views.{expr_of, stmt_of, stmts_of, assignment_of, test_of, earlier_argument_of, arguments_of, call_of, for_head_of, member_of, declaration_of, declared_of, earlier_parameter_of, parameters_of, header_of, local_of, local_initialiser_of, item_of, initialiser_of}
 use Rattle.clight_parts.specs.declared.part.Part.{Part}
 use Rattle.clight_parts.specs.declared.part.Noted.{Noted}
 use Rattle.clight_parts.specs.declared.part.Statements.{Statements}

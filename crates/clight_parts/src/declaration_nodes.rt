@@ -5,14 +5,14 @@ ghost use Rattle.clight_parts.specs.Builds as b;
 ghost use Rattle.clight_parts.specs.Builds.{limited};
 ghost use Rattle.clight_parts.specs.Nodes as n;
 ghost use Rattle.clight_parts.specs.Views.{expr_part, statements, members_note, earlier_parameters_note, parameters_note, header_note, front_note, local_initialiser_note, item_note, items_note, struct_front};
-ghost use Rattle.clight_syntax.specs.Views.{declared_of, declaration_of, initialiser_of};
-ghost use Rattle.clight_syntax.specs.Depth as d;
+ghost use Rattle.clight_source.specs.Code.Views.{declared_of, declaration_of, initialiser_of};
+ghost use Rattle.clight_source.specs.Depth as d;
 
 use crate::nodes::{FunctionFront, StructFront};
 use crate::part::{DEPTH_LIMIT, Noted, Part, Statements, least};
 use cerco_base::NoMemory;
-use clight_syntax::span::Span;
-use clight_syntax::tree::{
+use clight_source::span::Span;
+use clight_source::tree::{
     Declaration, Declared, EarlierParameter, Expr, Function, Global as GlobalVariable, Header,
     Initialiser, Item, Local, LocalInitialiser, Member, Parameters, Prototype, StructDefinition,
 };

@@ -3,9 +3,9 @@
 
 use crate::nodes::{ForMiddle, ForStart, FunctionFront, StructFront};
 use crate::part::{Noted, Part, Statements};
-use clight_syntax::span::Span;
-use clight_syntax::symbol::Literal;
-use clight_syntax::tree::{
+use clight_source::span::Span;
+use clight_source::symbol::Literal;
+use clight_source::tree::{
     BinaryOperator, Call, CallTarget, Declaration, Declared, EarlierArgument, EarlierNumber,
     EarlierParameter, Expr, ForHead, Header, Initialiser, Item, Member, MemberOperator, Name,
     PrefixOperator, SignedNumber, Specifiers, Stmt, Test,

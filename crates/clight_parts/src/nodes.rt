@@ -7,9 +7,9 @@ ghost use Rattle.clight_parts.specs.Views.{expr_part, assignment_note, test_note
 
 use crate::part::{Noted, Part, above, least};
 use cerco_base::NoMemory;
-use clight_syntax::span::Span;
-use clight_syntax::symbol::Literal;
-use clight_syntax::tree::{
+use clight_source::span::Span;
+use clight_source::symbol::Literal;
+use clight_source::tree::{
     Arguments, Assignment, BinaryOperator, Call, CallTarget, EarlierArgument, Expr, ForHead,
     Header, Local, MemberOperator, Name, PrefixOperator, Specifiers, Test,
 };

@@ -3,11 +3,11 @@
 ghost use Rattle.std.specs.Prelude.{◌≡◌};
 ghost use Rattle.clight_parts.specs.Builds as b;
 ghost use Rattle.clight_parts.specs.Views.{expr_part, stmt_part};
-ghost use Rattle.clight_syntax.specs.Views.{expr_of, stmt_of};
+ghost use Rattle.clight_source.specs.Code.Views.{expr_of, stmt_of};
 
-use clight_syntax::span::Span;
-use clight_syntax::symbol::{Literal, Radix};
-use clight_syntax::tree::{Expr, Stmt};
+use clight_source::span::Span;
+use clight_source::symbol::{Literal, Radix};
+use clight_source::tree::{Expr, Stmt};
 
 /// The greatest depth that a node of a program may have.
 pub const DEPTH_LIMIT: u32 = 64;

@@ -7,7 +7,7 @@ ghost use Rattle.clight_parts.specs.Forms as o;
 use crate::forms::{Form, Mode, StatementMode};
 use crate::part::Part;
 use cerco_base::NoMemory;
-use clight_syntax::tree::{Expr, Stmt};
+use clight_source::tree::{Expr, Stmt};
 
 /// Opens a form.
 pub fn push(stack: &mut Vec<Form>, form: Form) -> Result<(), NoMemory>

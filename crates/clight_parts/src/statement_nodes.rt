@@ -5,14 +5,14 @@ ghost use Rattle.clight_parts.specs.Builds as b;
 ghost use Rattle.clight_parts.specs.Builds.{limited};
 ghost use Rattle.clight_parts.specs.Nodes as n;
 ghost use Rattle.clight_parts.specs.Views.{expr_part, stmt_part, statements, test_note, call_note, for_head_note, optional_expr_note};
-ghost use Rattle.clight_syntax.specs.Views.{call_of, stmt_of, stmts_of};
-ghost use Rattle.clight_syntax.specs.Trees as t;
-ghost use Rattle.clight_syntax.specs.Depth as d;
+ghost use Rattle.clight_source.specs.Code.Views.{call_of, stmt_of, stmts_of};
+ghost use Rattle.clight_source.specs.Trees as t;
+ghost use Rattle.clight_source.specs.Depth as d;
 
 use crate::part::{Noted, Part, Statements, least, statement_above};
 use cerco_base::NoMemory;
-use clight_syntax::span::Span;
-use clight_syntax::tree::{Assignment, Call, Expr, ForHead, Stmt, Test};
+use clight_source::span::Span;
+use clight_source::tree::{Assignment, Call, Expr, ForHead, Stmt, Test};
 use std::alloc::Global;
 
 /// One more statement.

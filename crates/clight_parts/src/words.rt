@@ -3,9 +3,9 @@
 ghost use Rattle.std.specs.Prelude.{◌≡◌};
 ghost use Rattle.clight_parts.specs.Expressions as s;
 
-use clight_syntax::span::Span;
-use clight_syntax::symbol::Symbol;
-use clight_syntax::tree::Specifiers;
+use clight_source::span::Span;
+use clight_source::symbol::Symbol;
+use clight_source::tree::Specifiers;
 
 /// The type that one word is.
 pub fn first_word(symbol: Symbol, at: Span) -> Option<Specifiers>

@@ -1,11 +1,11 @@
 -- What the parser answers of terminals that spell items.
 use Rattle.std.proofs.Common.{◌≡◌, ℕ, ◌≤◌, List, length, take, sym, subst, ap, ◌∙◌, IfOk, IfErr, Result, Ok, Err}
 use Rattle.std.specs.Prelude.{Some, None}
-use Rattle.clight_syntax.specs.declared.symbol.Terminal.{Terminal}
-use Rattle.clight_syntax.specs.declared.tree.Item.{Item as CItem}
-use Rattle.clight_syntax.specs.Trees.{Item}
-use Rattle.clight_syntax.specs.Spelling.{Spells}
-use Rattle.clight_syntax.specs.Depth.{IsShallow}
+use Rattle.clight_source.specs.declared.symbol.Terminal.{Terminal}
+use Rattle.clight_source.specs.declared.tree.Item.{Item as CItem}
+use Rattle.clight_source.specs.Trees.{Item}
+use Rattle.clight_source.specs.Spelling.{Spells}
+use Rattle.clight_source.specs.Depth.{IsShallow}
 use Rattle.clight_reader.specs.declared.reading.ParseFault.{ParseFault}
 use Rattle.clight_reader.specs.declared.reading.ParseFault.TheVariants.{Syntax, Nesting, OutOfMemory}
 use Rattle.clight_parts.specs.Builds.{limited, Noted}

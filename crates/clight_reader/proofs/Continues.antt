@@ -1,12 +1,12 @@
 -- Each mode that is no fault goes on to some item: what is open is closed, with the dullest rest.
 use Rattle.std.proofs.Common.{◌≡◌, ℕ, ◌+◌, ◌≤◌, ◌<◌, false, List, [], ◌∷◌, ◌++◌, length, refl, sym, ap, subst, ◌∙◌, append_assoc, append-nil, arith}
 use Rattle.std.specs.Prelude.{Option, Some, None, map, flat_map}
-use Rattle.clight_syntax.specs.declared.symbol.Symbol.TheVariants as s
-use Rattle.clight_syntax.specs.declared.symbol.Terminal.{Terminal}
-use Rattle.clight_syntax.specs.declared.tree.Name.{Name}
-use Rattle.clight_syntax.specs.declared.tree.Specifiers.TheVariants as t
-use Rattle.clight_syntax.specs.Trees.{Expr, Variable, Parenthesis, Binary, Prefix, Cast, Index, Select, Assignment, Test, NoArguments, Arguments', ForHead, Stmt, Empty, Block, Assign, WritePort, CallOf, If, IfElse, While, Do, For, Return, Stmts, NoStmts, Then, Declared, Declaration, Member, NoInitialiser, Single, Listed, Parameters', NoValue, Value, Item, GlobalItem, PrototypeItem, FunctionItem}
-use Rattle.clight_syntax.specs.Spelling.{terminal, name_terminal, binary_symbol, prefix_symbol, member_symbol, type_terminals, expr_terminals, optional, test_terminals, earlier_argument_terminals, target_terminals, call_terminals, for_terminals, stmt_terminals, stmts_terminals, declared_terminals, declaration_terminals, member_terminals, number_terminals, earlier_number_terminals, initialiser_terminals, earlier_parameter_terminals, header_terminals, local_terminals, item_terminals, level, HasLevel, IsForHead, IsStatement, AreStatements, IsLocal, IsItem}
+use Rattle.clight_source.specs.declared.symbol.Symbol.TheVariants as s
+use Rattle.clight_source.specs.declared.symbol.Terminal.{Terminal}
+use Rattle.clight_source.specs.declared.tree.Name.{Name}
+use Rattle.clight_source.specs.declared.tree.Specifiers.TheVariants as t
+use Rattle.clight_source.specs.Trees.{Expr, Variable, Parenthesis, Binary, Prefix, Cast, Index, Select, Assignment, Test, NoArguments, Arguments', ForHead, Stmt, Empty, Block, Assign, WritePort, CallOf, If, IfElse, While, Do, For, Return, Stmts, NoStmts, Then, Declared, Declaration, Member, NoInitialiser, Single, Listed, Parameters', NoValue, Value, Item, GlobalItem, PrototypeItem, FunctionItem}
+use Rattle.clight_source.specs.Spelling.{terminal, name_terminal, binary_symbol, prefix_symbol, member_symbol, type_terminals, expr_terminals, optional, test_terminals, earlier_argument_terminals, target_terminals, call_terminals, for_terminals, stmt_terminals, stmts_terminals, declared_terminals, declaration_terminals, member_terminals, number_terminals, earlier_number_terminals, initialiser_terminals, earlier_parameter_terminals, header_terminals, local_terminals, item_terminals, level, HasLevel, IsForHead, IsStatement, AreStatements, IsLocal, IsItem}
 use Rattle.clight_parts.specs.Builds.{trees, no_span, no_literal}
 use Rattle.clight_parts.specs.Nodes.{make_name, make_declared, make_local, with_local, make_head, call, struct_item, header, ForStart, ForMiddle, StructFront, FunctionFront}
 use Rattle.clight_parts.specs.Forms.{Place, AsStatement, AsFirst, AsStep, Form, InBinary, InPrefix, InCast, InParenthesis, InIndex, InTarget, InValue, InPortValue, InArguments, InIfTest, InWhileTest, InDoTest, InCondition, InReturn, InLocalValue, InIf, InElse, InWhile, InDo, InFor, InBlock, InLocals, InBody, Owner, InSource, InStruct, InFirstParameter, InLaterParameter, InFunction, Pending, CallPending, ReadPending, DoPending, BreakPending, ContinuePending, NumberList, Mode, Operand, Behind, MemberName, CastTag, CastWords, Statement, MayElse, IfWord, WhileWord, DoBody, DoWhile, ForWord, ForFirst, ForCondition, ForStep, ReturnWord, PortWord, FirstArgument, StatementEnd, ItemStart, TypeStart, TagName, Words, Stars, Named, Lengths, LengthNumber, LengthEnd, Members, StructEnd, InitialiserStart, InitialiserNumber, InitialiserEnd, ListStart, ListNumber, ListEnd, HeaderEnd, Finished, Refused}

@@ -1,15 +1,15 @@
 -- The limited machine does with expressions what the machine over trees does.
 use Rattle.std.proofs.Common.{◌≡◌, ℕ, Bool, true, false, cond, List, [], ◌∷◌, refl, sym, ap, ◌∙◌}
 use Rattle.std.specs.Prelude.{nat_le, nat_lt, max, Option, Some, None}
-use Rattle.clight_syntax.specs.declared.span.Span.{Span}
-use Rattle.clight_syntax.specs.declared.symbol.Symbol.{Symbol}
-use Rattle.clight_syntax.specs.declared.symbol.Symbol.TheVariants as s
-use Rattle.clight_syntax.specs.declared.tree.Name.{Name}
-use Rattle.clight_syntax.specs.declared.tree.BinaryOperator.{BinaryOperator}
-use Rattle.clight_syntax.specs.declared.tree.MemberOperator.{MemberOperator}
-use Rattle.clight_syntax.specs.declared.tree.Specifiers.{Specifiers}
-use Rattle.clight_syntax.specs.Depth.{depth_limit}
-use Rattle.clight_syntax.specs.Trees.{Expr, Parenthesis, Binary, Prefix, Cast, Index, Select, Stmt, Assign, WritePort, If, IfElse, While, For, Return, Local}
+use Rattle.clight_source.specs.declared.span.Span.{Span}
+use Rattle.clight_source.specs.declared.symbol.Symbol.{Symbol}
+use Rattle.clight_source.specs.declared.symbol.Symbol.TheVariants as s
+use Rattle.clight_source.specs.declared.tree.Name.{Name}
+use Rattle.clight_source.specs.declared.tree.BinaryOperator.{BinaryOperator}
+use Rattle.clight_source.specs.declared.tree.MemberOperator.{MemberOperator}
+use Rattle.clight_source.specs.declared.tree.Specifiers.{Specifiers}
+use Rattle.clight_source.specs.Depth.{depth_limit}
+use Rattle.clight_source.specs.Trees.{Expr, Parenthesis, Binary, Prefix, Cast, Index, Select, Stmt, Assign, WritePort, If, IfElse, While, For, Return, Local}
 use Rattle.clight_parts.specs.Builds.{trees, limited, limit, least, empty_expr}
 use Rattle.clight_parts.specs.Nodes.{name_of, tree_name, with_local, FunctionFront}
 use Rattle.clight_parts.specs.Forms.{AsStatement, AsFirst, AsStep, Form, InBinary, InParenthesis, InIndex, InTarget, InValue, InPortValue, InArguments, InCondition, InReturn, InLocalValue, InIf, InElse, InWhile, InFor, InLocals, Operand, CastWords, Statement, Refused}

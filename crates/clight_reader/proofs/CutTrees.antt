@@ -1,7 +1,7 @@
 -- What the limited machine keeps of trees: each node is built as the limited machine builds it, from what it keeps of its parts.
 use Rattle.std.proofs.Common.{◌≡◌, List, [], ◌∷◌, ◌++◌, refl}
 use Rattle.std.specs.Prelude.{Option, Some, None}
-use Rattle.clight_syntax.specs.Trees.{Expr, Variable, Number, Parenthesis, Binary, Prefix, Cast, Index, Select, Assignment, Test, EarlierArgument, Arguments, NoArguments, Arguments', Call, ForHead, Stmt, Empty, Block, Assign, ReadPort, WritePort, CallOf, If, IfElse, While, Do, For, Break, Continue, Return, Stmts, NoStmts, Then, Member, EarlierParameter, Parameters, NoParameters, Parameters', Header, LocalInitialiser, NoValue, Value, Local, Item, StructItem, GlobalItem, PrototypeItem, FunctionItem}
+use Rattle.clight_source.specs.Trees.{Expr, Variable, Number, Parenthesis, Binary, Prefix, Cast, Index, Select, Assignment, Test, EarlierArgument, Arguments, NoArguments, Arguments', Call, ForHead, Stmt, Empty, Block, Assign, ReadPort, WritePort, CallOf, If, IfElse, While, Do, For, Break, Continue, Return, Stmts, NoStmts, Then, Member, EarlierParameter, Parameters, NoParameters, Parameters', Header, LocalInitialiser, NoValue, Value, Local, Item, StructItem, GlobalItem, PrototypeItem, FunctionItem}
 use Rattle.clight_parts.specs.Builds.{trees, limited, Part, Noted, Statements, no_statements, more_statements}
 use Rattle.clight_parts.specs.Nodes.{variable, constant, parenthesis, binary, prefix, cast, index, select, assignment, test, more_arguments, no_arguments, all_arguments, call, ForStart, ForMiddle, for_start, for_middle, for_head, nothing, just_expr, just_assignment, empty_statement, assign, read_port, write_port, call_statement, break_statement, continue_statement, return_statement, block, if_statement, if_else, while_statement, do_statement, for_statement, no_members, more_members, struct_item, global_item, no_parameters, more_parameters, void_parameters, all_parameters, header, prototype_item, FunctionFront, no_locals, no_value, first_value, more_locals, function_item, no_items, more_items}
 use Rattle.clight_parts.specs.Forms.{Place, AsStatement, AsFirst, AsStep, Form, InBinary, InPrefix, InCast, InParenthesis, InIndex, InTarget, InValue, InPortValue, InArguments, InIfTest, InWhileTest, InDoTest, InCondition, InReturn, InLocalValue, InIf, InElse, InWhile, InDo, InFor, InBlock, InLocals, InBody, Owner, InSource, InStruct, InFirstParameter, InLaterParameter, InFunction, Pending, CallPending, ReadPending, DoPending, BreakPending, ContinuePending, Mode, Operand, Behind, MemberName, CastTag, CastWords, Statement, MayElse, IfWord, WhileWord, DoBody, DoWhile, ForWord, ForFirst, ForCondition, ForStep, ReturnWord, PortWord, FirstArgument, StatementEnd, ItemStart, TypeStart, TagName, Words, Stars, Named, Lengths, LengthNumber, LengthEnd, Members, StructEnd, InitialiserStart, InitialiserNumber, InitialiserEnd, ListStart, ListNumber, ListEnd, HeaderEnd, Finished, Refused}

@@ -3,8 +3,8 @@ use Rattle.std.proofs.Common.{◌≡◌, ℕ, suc, ◌≤◌, ◌<◌, ◌⊎◌
 use Rattle.std.specs.Prelude.{nat_le, Option, Some, None, flat_map}
 use Rattle.std.proofs.lemmas.Bool.{cases_lt}
 use Rattle.std.proofs.lemmas.List.Elements.{All-nil, All-cons, All-head, All-tail}
-use Rattle.clight_syntax.specs.Trees.{Member, Struct, EarlierParameter, Parameters, NoParameters, Parameters', Header, LocalInitialiser, NoValue, Value, Local, Function, Item, StructItem, GlobalItem, PrototypeItem, FunctionItem}
-use Rattle.clight_syntax.specs.Depth.{Node, node, declared_start, declaration_depth, declared_nodes, declaration_nodes, member_nodes, earlier_parameter_nodes, parameters_nodes, header_nodes, local_initialiser_nodes, local_nodes, stmts_nodes, item_nodes, nodes, depth_limit, IsShallow, IsFirstDeep}
+use Rattle.clight_source.specs.Trees.{Member, Struct, EarlierParameter, Parameters, NoParameters, Parameters', Header, LocalInitialiser, NoValue, Value, Local, Function, Item, StructItem, GlobalItem, PrototypeItem, FunctionItem}
+use Rattle.clight_source.specs.Depth.{Node, node, declared_start, declaration_depth, declared_nodes, declaration_nodes, member_nodes, earlier_parameter_nodes, parameters_nodes, header_nodes, local_initialiser_nodes, local_nodes, stmts_nodes, item_nodes, nodes, depth_limit, IsShallow, IsFirstDeep}
 use Rattle.clight_parts.specs.Builds.{limited, Noted, least, too_deep, declared_note, declaration_note}
 use Rattle.clight_parts.specs.Nodes.{FunctionFront, no_members, no_parameters, no_locals, no_items, make_local, with_local}
 use Rattle.clight_reader.proofs.CutTrees.{onto, cut_stmts, add_member, cut_members, add_parameter, cut_earlier_parameters, cut_parameters, cut_header, cut_local_initialiser, add_local, cut_front, cut_item, add_item, cut_items}

@@ -3,8 +3,8 @@
 use Rattle.std.proofs.Common.{◌≡◌, ℕ, ◌+◌, ◌≤◌, ◌<◌, min, max, Bool, true, false, List, [], ◌∷◌, ◌++◌, refl, sym, ap, ap₂, subst₂, ◌∙◌, append_assoc, append-nil, arith}
 use Rattle.std.specs.Prelude.{nat_le, nat_lt, Option, Some, None, flat_map}
 use Rattle.std.proofs.lemmas.Bool.Decides.{nat_tests}
-use Rattle.clight_syntax.specs.Trees.{Expr, Variable, Number, Parenthesis, Binary, Prefix, Cast, Index, Select, Assignment, Test, EarlierArgument, Arguments, NoArguments, Arguments', Call, ForHead, Stmt, Empty, Block, Assign, ReadPort, WritePort, CallOf, If, IfElse, While, Do, For, Break, Continue, Return, Stmts, NoStmts, Then}
-use Rattle.clight_syntax.specs.Depth.{depth, stmt_depth, stmts_depth, expr_start, stmt_start, Node, node, expr_nodes, optional_nodes, assignment_nodes, earlier_argument_nodes, arguments_nodes, for_nodes, stmt_nodes, stmts_nodes}
+use Rattle.clight_source.specs.Trees.{Expr, Variable, Number, Parenthesis, Binary, Prefix, Cast, Index, Select, Assignment, Test, EarlierArgument, Arguments, NoArguments, Arguments', Call, ForHead, Stmt, Empty, Block, Assign, ReadPort, WritePort, CallOf, If, IfElse, While, Do, For, Break, Continue, Return, Stmts, NoStmts, Then}
+use Rattle.clight_source.specs.Depth.{depth, stmt_depth, stmts_depth, expr_start, stmt_start, Node, node, expr_nodes, optional_nodes, assignment_nodes, earlier_argument_nodes, arguments_nodes, for_nodes, stmt_nodes, stmts_nodes}
 use Rattle.clight_parts.specs.Builds.{limited, Part, Noted, least, too_deep, limit, empty_expr, empty_stmt}
 use Rattle.clight_parts.specs.Statements.{no_earlier}
 use Rattle.clight_reader.proofs.CutTrees.{onto, cut_expr, cut_assignment, cut_test, add_argument, cut_earlier, cut_arguments, cut_call, cut_first, cut_condition, cut_head, cut_stmt, cut_stmts}

@@ -1,7 +1,7 @@
 -- What modes are no end of an item and no refusal.
 use Rattle.std.proofs.Common.{◌≡◌, Bool, true, false, List, refl}
 use Rattle.std.specs.Prelude.{Option, Some, None}
-use Rattle.clight_syntax.specs.Trees.{Item}
+use Rattle.clight_source.specs.Trees.{Item}
 use Rattle.clight_parts.specs.declared.forms.Mode.{Mode}
 use Rattle.clight_parts.specs.declared.forms.Mode.TheVariants as m
 use Rattle.clight_parts.specs.declared.forms.StatementMode.{StatementMode}

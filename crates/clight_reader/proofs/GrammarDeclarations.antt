@@ -2,15 +2,15 @@
 use Rattle.std.proofs.Common.{◌<◌, List, length}
 use Rattle.std.specs.Prelude.{Option, Some, None}
 use Rattle.std.proofs.lemmas.List.Elements.{All-nil}
-use Rattle.clight_syntax.specs.declared.span.Span.{Span}
-use Rattle.clight_syntax.specs.declared.symbol.Literal.{Literal}
-use Rattle.clight_syntax.specs.declared.symbol.Symbol.{Symbol}
-use Rattle.clight_syntax.specs.declared.symbol.Symbol.TheVariants as s
-use Rattle.clight_syntax.specs.declared.tree.Specifiers.{Specifiers}
-use Rattle.clight_syntax.specs.declared.tree.Specifiers.TheVariants as t
-use Rattle.clight_syntax.specs.declared.tree.SignedNumber.{SignedNumber}
-use Rattle.clight_syntax.specs.Trees.{Declared, Declaration, Initialiser, Header, Member}
-use Rattle.clight_syntax.specs.Spelling.{IsLocal}
+use Rattle.clight_source.specs.declared.span.Span.{Span}
+use Rattle.clight_source.specs.declared.symbol.Literal.{Literal}
+use Rattle.clight_source.specs.declared.symbol.Symbol.{Symbol}
+use Rattle.clight_source.specs.declared.symbol.Symbol.TheVariants as s
+use Rattle.clight_source.specs.declared.tree.Specifiers.{Specifiers}
+use Rattle.clight_source.specs.declared.tree.Specifiers.TheVariants as t
+use Rattle.clight_source.specs.declared.tree.SignedNumber.{SignedNumber}
+use Rattle.clight_source.specs.Trees.{Declared, Declaration, Initialiser, Header, Member}
+use Rattle.clight_source.specs.Spelling.{IsLocal}
 use Rattle.clight_parts.specs.Builds.{trees}
 use Rattle.clight_parts.specs.Nodes.{StructFront}
 use Rattle.clight_parts.specs.Forms.{Owner, InSource, InStruct, InFirstParameter, InLaterParameter, InFunction, NumberList, Words, Refused}

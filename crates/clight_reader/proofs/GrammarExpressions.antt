@@ -3,15 +3,15 @@ use Rattle.std.proofs.Common.{◌≡◌, ℕ, ◌+◌, ◌≤◌, ◌<◌, Bool,
 use Rattle.std.specs.Prelude.{nat_le, Option, Some, None}
 use Rattle.std.proofs.lemmas.Bool.Decides.{nat_tests}
 use Rattle.std.proofs.lemmas.List.Elements.{All-nil, All-cons, All-append}
-use Rattle.clight_syntax.specs.declared.span.Span.{Span}
-use Rattle.clight_syntax.specs.declared.symbol.Symbol.{Symbol}
-use Rattle.clight_syntax.specs.declared.symbol.Symbol.TheVariants as s
-use Rattle.clight_syntax.specs.declared.tree.Name.{Name}
-use Rattle.clight_syntax.specs.declared.tree.BinaryOperator.{BinaryOperator}
-use Rattle.clight_syntax.specs.declared.tree.MemberOperator.{MemberOperator}
-use Rattle.clight_syntax.specs.declared.tree.Specifiers.{Specifiers}
-use Rattle.clight_syntax.specs.Trees.{Expr, Binary, Prefix, Cast, Stmt, Assign, WritePort, If, IfElse, While, For, Return}
-use Rattle.clight_syntax.specs.Spelling.{level, HasLevel, IsExpression, EndsClosed, IsStatement, IsLocal}
+use Rattle.clight_source.specs.declared.span.Span.{Span}
+use Rattle.clight_source.specs.declared.symbol.Symbol.{Symbol}
+use Rattle.clight_source.specs.declared.symbol.Symbol.TheVariants as s
+use Rattle.clight_source.specs.declared.tree.Name.{Name}
+use Rattle.clight_source.specs.declared.tree.BinaryOperator.{BinaryOperator}
+use Rattle.clight_source.specs.declared.tree.MemberOperator.{MemberOperator}
+use Rattle.clight_source.specs.declared.tree.Specifiers.{Specifiers}
+use Rattle.clight_source.specs.Trees.{Expr, Binary, Prefix, Cast, Stmt, Assign, WritePort, If, IfElse, While, For, Return}
+use Rattle.clight_source.specs.Spelling.{level, HasLevel, IsExpression, EndsClosed, IsStatement, IsLocal}
 use Rattle.clight_parts.specs.Builds.{trees}
 use Rattle.clight_parts.specs.Forms.{AsStatement, AsFirst, AsStep, Form, InBinary, InPrefix, InCast, InParenthesis, InIndex, InTarget, InValue, InPortValue, InArguments, InIfTest, InWhileTest, InDoTest, InCondition, InReturn, InLocalValue, InIf, InElse, InWhile, InDo, InFor, InBlock, InLocals, InBody, Operand, CastWords, Refused}
 use Rattle.clight_parts.specs.Expressions.{first_word, next_word, close, settle, Settled, settled, strength, binary_of, mark_level, binds, is_target, infix_at, cast_words, cast_tag, read_pending, operand, member_name, tag_of_cast, in_cast}

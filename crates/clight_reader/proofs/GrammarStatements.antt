@@ -2,14 +2,14 @@
 use Rattle.std.proofs.Common.{List, [], ◌∷◌, arith}
 use Rattle.std.specs.Prelude.{Option, Some, None}
 use Rattle.std.proofs.lemmas.List.Elements.{All-nil}
-use Rattle.clight_syntax.specs.declared.span.Span.{Span}
-use Rattle.clight_syntax.specs.declared.symbol.Symbol.{Symbol}
-use Rattle.clight_syntax.specs.declared.symbol.Symbol.TheVariants as s
-use Rattle.clight_syntax.specs.declared.tree.Name.{Name}
-use Rattle.clight_syntax.specs.declared.tree.Specifiers.{Specifiers}
-use Rattle.clight_syntax.specs.declared.tree.CallTarget.{CallTarget}
-use Rattle.clight_syntax.specs.Trees.{Stmt, Empty, Block, Return}
-use Rattle.clight_syntax.specs.Spelling.{IsExpression, EndsClosed, IsStatement}
+use Rattle.clight_source.specs.declared.span.Span.{Span}
+use Rattle.clight_source.specs.declared.symbol.Symbol.{Symbol}
+use Rattle.clight_source.specs.declared.symbol.Symbol.TheVariants as s
+use Rattle.clight_source.specs.declared.tree.Name.{Name}
+use Rattle.clight_source.specs.declared.tree.Specifiers.{Specifiers}
+use Rattle.clight_source.specs.declared.tree.CallTarget.{CallTarget}
+use Rattle.clight_source.specs.Trees.{Stmt, Empty, Block, Return}
+use Rattle.clight_source.specs.Spelling.{IsExpression, EndsClosed, IsStatement}
 use Rattle.clight_parts.specs.Builds.{trees}
 use Rattle.clight_parts.specs.Nodes.{ForStart, ForMiddle}
 use Rattle.clight_parts.specs.Forms.{AsStatement, AsFirst, AsStep, Form, InTarget, InArguments, InCondition, InReturn, InIf, InBlock, InLocals, InBody, Pending, CallPending, ReadPending, DoPending, BreakPending, ContinuePending, Mode, Statement, DoBody}

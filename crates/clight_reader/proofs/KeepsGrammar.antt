@@ -1,6 +1,6 @@
 -- A token leads from parts of the grammar to parts of the grammar.
-use Rattle.clight_syntax.specs.declared.span.Span.{Span}
-use Rattle.clight_syntax.specs.declared.symbol.Symbol.{Symbol}
+use Rattle.clight_source.specs.declared.span.Span.{Span}
+use Rattle.clight_source.specs.declared.symbol.Symbol.{Symbol}
 use Rattle.clight_parts.specs.Builds.{trees}
 use Rattle.clight_parts.specs.Forms.{InIfTest, InWhileTest, InDoTest, InSource, Mode, Operand, Behind, MemberName, CastTag, CastWords, Statement, MayElse, IfWord, WhileWord, DoBody, DoWhile, ForWord, ForFirst, ForCondition, ForStep, ReturnWord, PortWord, FirstArgument, StatementEnd, ItemStart, TypeStart, TagName, Words, Stars, Named, Lengths, LengthNumber, LengthEnd, Members, StructEnd, InitialiserStart, InitialiserNumber, InitialiserEnd, ListStart, ListNumber, ListEnd, HeaderEnd, Finished, Refused}
 use Rattle.clight_parts.specs.Machine.{next}

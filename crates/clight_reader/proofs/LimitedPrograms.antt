@@ -2,10 +2,10 @@
 use Rattle.std.proofs.Common.{◌≡◌, ℕ, suc, ◌+◌, ◌≤◌, ◌<◌, true, false, List, [], ◌∷◌, ◌++◌, length, take, get_or, refl, sym, ap, subst, ◌∙◌, add-one, arith}
 use Rattle.std.specs.Prelude.{Option, Some, None, option_map}
 use Rattle.std.proofs.lemmas.List.{take_more, take_all}
-use Rattle.clight_syntax.specs.declared.symbol.Terminal.{Terminal}
-use Rattle.clight_syntax.specs.Trees.{Item}
-use Rattle.clight_syntax.specs.Spelling.{Spells}
-use Rattle.clight_syntax.specs.Depth.{IsShallow, IsFirstDeep}
+use Rattle.clight_source.specs.declared.symbol.Terminal.{Terminal}
+use Rattle.clight_source.specs.Trees.{Item}
+use Rattle.clight_source.specs.Spelling.{Spells}
+use Rattle.clight_source.specs.Depth.{IsShallow, IsFirstDeep}
 use Rattle.clight_parts.specs.Builds.{trees, limited, Noted}
 use Rattle.clight_parts.specs.Machine.{State, step, run, start, ends, refused}
 use Rattle.clight_reader.specs.Faults.{FaultAt}

@@ -3,9 +3,9 @@ use Rattle.std.proofs.Common.{◌≡◌, ◌⊎◌, inl, inr, ℕ, zero, suc, �
 use Rattle.std.specs.Prelude.{Option, Some, None}
 use Rattle.std.proofs.lemmas.Bool.{cases_lt}
 use Rattle.std.proofs.lemmas.List.{take_all}
-use Rattle.clight_syntax.specs.declared.symbol.Terminal.{Terminal}
-use Rattle.clight_syntax.specs.Trees.{Item}
-use Rattle.clight_syntax.specs.Spelling.{Spells, Begins}
+use Rattle.clight_source.specs.declared.symbol.Terminal.{Terminal}
+use Rattle.clight_source.specs.Trees.{Item}
+use Rattle.clight_source.specs.Spelling.{Spells, Begins}
 use Rattle.clight_parts.specs.Builds.{trees}
 use Rattle.clight_parts.specs.Machine.{run, start, ends, refused}
 use Rattle.clight_reader.specs.Faults.{FaultAt}

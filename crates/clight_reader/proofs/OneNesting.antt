@@ -2,8 +2,8 @@
 use Rattle.std.proofs.Common.{◌≡◌, ◌⊎◌, inl, inr, ℕ, ◌≤◌, ◌<◌, List, refl, ap, arith}
 use Rattle.std.specs.Prelude.{Option, Some, None}
 use Rattle.std.proofs.lemmas.List.Elements.{All-contains}
-use Rattle.clight_syntax.specs.Trees.{Item}
-use Rattle.clight_syntax.specs.Depth.{node, nodes, depth_limit, IsShallow, IsFirstDeep}
+use Rattle.clight_source.specs.Trees.{Item}
+use Rattle.clight_source.specs.Depth.{node, nodes, depth_limit, IsShallow, IsFirstDeep}
 use Rattle.clight_reader.proofs.CutTrees.{cut_items}
 use Rattle.clight_reader.proofs.DeepItems.{shallow_items, deep_items}
 

@@ -3,9 +3,9 @@ use Rattle.std.proofs.Common.{◌≡◌, ℕ, zero, suc, List, [], ◌∷◌, ma
 use Rattle.std.specs.Prelude.{Some, None, slice_get, slice_index_or}
 use Rattle.cerco_base.specs.declared.reasons.Fault.TheVariants.{Refused}
 use Rattle.cerco_base.specs.declared.reasons.Reason.TheVariants as r
-use Rattle.clight_syntax.specs.declared.symbol.Terminal.{Terminal}
-use Rattle.clight_syntax.specs.Symbols.{names_of, terminal_of, terminals_of}
-use Rattle.clight_syntax.specs.Tokens.{Token, Tokenised}
+use Rattle.clight_source.specs.declared.symbol.Terminal.{Terminal}
+use Rattle.clight_tokens.specs.Symbols.{names_of, terminal_of, terminals_of}
+use Rattle.clight_tokens.specs.Tokens.{Token, Tokenised}
 use Rattle.clight_reader.specs.Faults.{FaultAt}
 use Rattle.clight_reader.specs.Reasons.{HasNoTree}
 

@@ -4,9 +4,9 @@ use Rattle.std.specs.Prelude.{Some, None}
 use Rattle.std.proofs.lemmas.Bool.{cases_lt}
 use Rattle.std.proofs.lemmas.List.{take-append-drop}
 use Rattle.std.proofs.lemmas.List.Elements.{All-head, All-tail, All-nil}
-use Rattle.clight_syntax.specs.declared.symbol.Terminal.{Terminal}
-use Rattle.clight_syntax.specs.Trees.{Item}
-use Rattle.clight_syntax.specs.Spelling.{item_terminals, items_terminals, IsItem, AreItems, Spells, Begins}
+use Rattle.clight_source.specs.declared.symbol.Terminal.{Terminal}
+use Rattle.clight_source.specs.Trees.{Item}
+use Rattle.clight_source.specs.Spelling.{item_terminals, items_terminals, IsItem, AreItems, Spells, Begins}
 use Rattle.clight_parts.specs.Builds.{trees}
 use Rattle.clight_parts.specs.Forms.{Mode, ItemStart, Finished, Refused}
 use Rattle.clight_parts.specs.Machine.{next, State, state, gather, step, run, start, ends_in, ends, refused}

@@ -2,19 +2,19 @@
 use Rattle.std.proofs.Common.{◌≡◌, ◌<◌, List, [], ◌∷◌, ◌++◌, All, length, refl, sym, ap, ◌∙◌, append_assoc, append-nil, arith}
 use Rattle.std.specs.Prelude.{Option, Some, None, map, flat_map}
 use Rattle.std.proofs.lemmas.List.Elements.{All-head, All-tail}
-use Rattle.clight_syntax.specs.declared.span.Span.{Span}
-use Rattle.clight_syntax.specs.declared.symbol.Literal.{Literal}
-use Rattle.clight_syntax.specs.declared.symbol.Symbol.{Symbol}
-use Rattle.clight_syntax.specs.declared.symbol.Symbol.TheVariants as s
-use Rattle.clight_syntax.specs.declared.symbol.Terminal.{Terminal}
-use Rattle.clight_syntax.specs.declared.tree.Name.{Name}
-use Rattle.clight_syntax.specs.declared.tree.Specifiers.{Specifiers}
-use Rattle.clight_syntax.specs.declared.tree.Specifiers.TheVariants as t
-use Rattle.clight_syntax.specs.declared.tree.Length.{Length}
-use Rattle.clight_syntax.specs.declared.tree.SignedNumber.{SignedNumber}
-use Rattle.clight_syntax.specs.declared.tree.EarlierNumber.{EarlierNumber}
-use Rattle.clight_syntax.specs.Trees.{Declared, Declaration, Member, Struct, Initialiser, NoInitialiser, Single, Listed, EarlierParameter, Parameters, NoParameters, Parameters', Header, LocalInitialiser, NoValue, Value, Local, Function, Stmts, NoStmts, Then, Item, StructItem, GlobalItem, PrototypeItem, FunctionItem}
-use Rattle.clight_syntax.specs.Spelling.{terminal, name_terminal, type_terminals, expr_terminals, stmts_terminals, optional, length_terminals, declared_terminals, declaration_terminals, member_terminals, struct_terminals, minus_terminals, number_terminals, earlier_number_terminals, initialiser_terminals, earlier_parameter_terminals, parameters_terminals, header_terminals, local_initialiser_terminals, local_terminals, function_terminals, item_terminals, IsLocalInitialiser, IsLocal, IsFunction, IsItem}
+use Rattle.clight_source.specs.declared.span.Span.{Span}
+use Rattle.clight_source.specs.declared.symbol.Literal.{Literal}
+use Rattle.clight_source.specs.declared.symbol.Symbol.{Symbol}
+use Rattle.clight_source.specs.declared.symbol.Symbol.TheVariants as s
+use Rattle.clight_source.specs.declared.symbol.Terminal.{Terminal}
+use Rattle.clight_source.specs.declared.tree.Name.{Name}
+use Rattle.clight_source.specs.declared.tree.Specifiers.{Specifiers}
+use Rattle.clight_source.specs.declared.tree.Specifiers.TheVariants as t
+use Rattle.clight_source.specs.declared.tree.Length.{Length}
+use Rattle.clight_source.specs.declared.tree.SignedNumber.{SignedNumber}
+use Rattle.clight_source.specs.declared.tree.EarlierNumber.{EarlierNumber}
+use Rattle.clight_source.specs.Trees.{Declared, Declaration, Member, Struct, Initialiser, NoInitialiser, Single, Listed, EarlierParameter, Parameters, NoParameters, Parameters', Header, LocalInitialiser, NoValue, Value, Local, Function, Stmts, NoStmts, Then, Item, StructItem, GlobalItem, PrototypeItem, FunctionItem}
+use Rattle.clight_source.specs.Spelling.{terminal, name_terminal, type_terminals, expr_terminals, stmts_terminals, optional, length_terminals, declared_terminals, declaration_terminals, member_terminals, struct_terminals, minus_terminals, number_terminals, earlier_number_terminals, initialiser_terminals, earlier_parameter_terminals, parameters_terminals, header_terminals, local_initialiser_terminals, local_terminals, function_terminals, item_terminals, IsLocalInitialiser, IsLocal, IsFunction, IsItem}
 use Rattle.clight_parts.specs.Builds.{trees}
 use Rattle.clight_parts.specs.Nodes.{make_declared, make_local, with_local, StructFront, FunctionFront, header}
 use Rattle.clight_parts.specs.Forms.{Form, InLocalValue, InLocals, Owner, InSource, InStruct, InFirstParameter, InLaterParameter, InFunction, NumberList, Mode, Operand, Statement, ItemStart, TypeStart, Words, Stars, Named, Lengths, Members, InitialiserStart, InitialiserEnd, ListStart, ListEnd, HeaderEnd, Finished}

@@ -2,15 +2,15 @@
 use Rattle.std.proofs.Common.{◌≡◌, List, [], ◌∷◌, ◌++◌, All, refl, sym, ap, ◌∙◌, append_assoc, append-nil, arith}
 use Rattle.std.specs.Prelude.{Option, Some, None, flat_map}
 use Rattle.std.proofs.lemmas.List.Elements.{All-head, All-tail}
-use Rattle.clight_syntax.specs.declared.span.Span.{Span}
-use Rattle.clight_syntax.specs.declared.symbol.Symbol.{Symbol}
-use Rattle.clight_syntax.specs.declared.symbol.Symbol.TheVariants as s
-use Rattle.clight_syntax.specs.declared.symbol.Terminal.{Terminal}
-use Rattle.clight_syntax.specs.declared.tree.Name.{Name}
-use Rattle.clight_syntax.specs.declared.tree.PrefixOperator.TheVariants as p
-use Rattle.clight_syntax.specs.declared.tree.CallTarget.{CallTarget}
-use Rattle.clight_syntax.specs.Trees.{Expr, Variable, Number, Parenthesis, Binary, Prefix, Cast, Index, Select, Assignment, Test, EarlierArgument, Arguments, NoArguments, Arguments', Call, ForHead, Stmt, Empty, Block, Assign, ReadPort, WritePort, CallOf, If, IfElse, While, Do, For, Break, Continue, Return, Stmts, NoStmts, Then}
-use Rattle.clight_syntax.specs.Spelling.{terminal, expr_terminals, assignment_terminals, optional, test_terminals, earlier_argument_terminals, arguments_terminals, target_terminals, call_terminals, for_terminals, stmt_terminals, stmts_terminals, HasLevel, IsExpression, IsAssignment, IfThere, AreArguments, IsForHead, EndsClosed, IsStatement, AreStatements}
+use Rattle.clight_source.specs.declared.span.Span.{Span}
+use Rattle.clight_source.specs.declared.symbol.Symbol.{Symbol}
+use Rattle.clight_source.specs.declared.symbol.Symbol.TheVariants as s
+use Rattle.clight_source.specs.declared.symbol.Terminal.{Terminal}
+use Rattle.clight_source.specs.declared.tree.Name.{Name}
+use Rattle.clight_source.specs.declared.tree.PrefixOperator.TheVariants as p
+use Rattle.clight_source.specs.declared.tree.CallTarget.{CallTarget}
+use Rattle.clight_source.specs.Trees.{Expr, Variable, Number, Parenthesis, Binary, Prefix, Cast, Index, Select, Assignment, Test, EarlierArgument, Arguments, NoArguments, Arguments', Call, ForHead, Stmt, Empty, Block, Assign, ReadPort, WritePort, CallOf, If, IfElse, While, Do, For, Break, Continue, Return, Stmts, NoStmts, Then}
+use Rattle.clight_source.specs.Spelling.{terminal, expr_terminals, assignment_terminals, optional, test_terminals, earlier_argument_terminals, arguments_terminals, target_terminals, call_terminals, for_terminals, stmt_terminals, stmts_terminals, HasLevel, IsExpression, IsAssignment, IfThere, AreArguments, IsForHead, EndsClosed, IsStatement, AreStatements}
 use Rattle.clight_parts.specs.Builds.{trees}
 use Rattle.clight_parts.specs.Nodes.{ForStart, ForMiddle, FunctionFront, for_start, for_middle, for_head, call}
 use Rattle.clight_parts.specs.Forms.{Place, AsStatement, AsFirst, AsStep, Form, InTarget, InValue, InPortValue, InArguments, InIfTest, InWhileTest, InDoTest, InCondition, InReturn, InIf, InElse, InWhile, InDo, InFor, InBlock, InLocals, InBody, CallPending, Mode, Operand, Statement, ForFirst, ForCondition, ForStep, ReturnWord, FirstArgument, StatementEnd}

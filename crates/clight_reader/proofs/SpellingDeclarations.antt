@@ -1,16 +1,16 @@
 -- What the machine has read inside a declaration is what its mode spells.
 use Rattle.std.proofs.Common.{◌≡◌, List, [], ◌∷◌, ◌++◌, refl, sym, ap, ◌∙◌, append_assoc, append-nil}
 use Rattle.std.specs.Prelude.{Option, Some, None, map, flat_map}
-use Rattle.clight_syntax.specs.declared.span.Span.{Span}
-use Rattle.clight_syntax.specs.declared.symbol.Literal.{Literal}
-use Rattle.clight_syntax.specs.declared.symbol.Symbol.{Symbol}
-use Rattle.clight_syntax.specs.declared.symbol.Symbol.TheVariants as s
-use Rattle.clight_syntax.specs.declared.symbol.Terminal.{Terminal}
-use Rattle.clight_syntax.specs.declared.tree.Specifiers.{Specifiers}
-use Rattle.clight_syntax.specs.declared.tree.Specifiers.TheVariants as t
-use Rattle.clight_syntax.specs.declared.tree.SignedNumber.{SignedNumber}
-use Rattle.clight_syntax.specs.Trees.{Declared, Declaration, Initialiser, Header, Member}
-use Rattle.clight_syntax.specs.Spelling.{terminal, type_terminals, length_terminals, declared_terminals, declaration_terminals, member_terminals, number_terminals, earlier_number_terminals, initialiser_terminals, earlier_parameter_terminals, header_terminals}
+use Rattle.clight_source.specs.declared.span.Span.{Span}
+use Rattle.clight_source.specs.declared.symbol.Literal.{Literal}
+use Rattle.clight_source.specs.declared.symbol.Symbol.{Symbol}
+use Rattle.clight_source.specs.declared.symbol.Symbol.TheVariants as s
+use Rattle.clight_source.specs.declared.symbol.Terminal.{Terminal}
+use Rattle.clight_source.specs.declared.tree.Specifiers.{Specifiers}
+use Rattle.clight_source.specs.declared.tree.Specifiers.TheVariants as t
+use Rattle.clight_source.specs.declared.tree.SignedNumber.{SignedNumber}
+use Rattle.clight_source.specs.Trees.{Declared, Declaration, Initialiser, Header, Member}
+use Rattle.clight_source.specs.Spelling.{terminal, type_terminals, length_terminals, declared_terminals, declaration_terminals, member_terminals, number_terminals, earlier_number_terminals, initialiser_terminals, earlier_parameter_terminals, header_terminals}
 use Rattle.clight_parts.specs.Builds.{trees}
 use Rattle.clight_parts.specs.Nodes.{StructFront}
 use Rattle.clight_parts.specs.Forms.{Owner, InSource, InStruct, InFirstParameter, InLaterParameter, InFunction, NumberList, Words, Refused}

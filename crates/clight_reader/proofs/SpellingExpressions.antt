@@ -3,18 +3,18 @@ use Rattle.std.proofs.Common.{◌≡◌, ℕ, ◌≤◌, Bool, true, false, cond
 use Rattle.std.specs.Prelude.{nat_le, Option, Some, None, flat_map}
 use Rattle.std.proofs.lemmas.Bool.Decides.{nat_tests}
 use Rattle.std.proofs.lemmas.Grind.{flat_map-append}
-use Rattle.clight_syntax.specs.declared.span.Span.{Span}
-use Rattle.clight_syntax.specs.declared.symbol.Symbol.{Symbol}
-use Rattle.clight_syntax.specs.declared.symbol.Symbol.TheVariants as s
-use Rattle.clight_syntax.specs.declared.symbol.Terminal.{Terminal}
-use Rattle.clight_syntax.specs.declared.tree.Name.{Name}
-use Rattle.clight_syntax.specs.declared.tree.BinaryOperator.{BinaryOperator}
-use Rattle.clight_syntax.specs.declared.tree.BinaryOperator.TheVariants as o
-use Rattle.clight_syntax.specs.declared.tree.MemberOperator.{MemberOperator}
-use Rattle.clight_syntax.specs.declared.tree.Specifiers.{Specifiers}
-use Rattle.clight_syntax.specs.declared.tree.Specifiers.TheVariants as t
-use Rattle.clight_syntax.specs.Trees.{Expr, Variable, Binary, Prefix, Cast, Assignment, Stmt, Assign, WritePort, If, IfElse, While, For, Return, Local}
-use Rattle.clight_syntax.specs.Spelling.{terminal, name_terminal, binary_symbol, prefix_symbol, member_symbol, type_terminals, expr_terminals, assignment_terminals, optional, test_terminals, earlier_argument_terminals, target_terminals, for_terminals, stmt_terminals, stmts_terminals, declaration_terminals, header_terminals, local_terminals, level}
+use Rattle.clight_source.specs.declared.span.Span.{Span}
+use Rattle.clight_source.specs.declared.symbol.Symbol.{Symbol}
+use Rattle.clight_source.specs.declared.symbol.Symbol.TheVariants as s
+use Rattle.clight_source.specs.declared.symbol.Terminal.{Terminal}
+use Rattle.clight_source.specs.declared.tree.Name.{Name}
+use Rattle.clight_source.specs.declared.tree.BinaryOperator.{BinaryOperator}
+use Rattle.clight_source.specs.declared.tree.BinaryOperator.TheVariants as o
+use Rattle.clight_source.specs.declared.tree.MemberOperator.{MemberOperator}
+use Rattle.clight_source.specs.declared.tree.Specifiers.{Specifiers}
+use Rattle.clight_source.specs.declared.tree.Specifiers.TheVariants as t
+use Rattle.clight_source.specs.Trees.{Expr, Variable, Binary, Prefix, Cast, Assignment, Stmt, Assign, WritePort, If, IfElse, While, For, Return, Local}
+use Rattle.clight_source.specs.Spelling.{terminal, name_terminal, binary_symbol, prefix_symbol, member_symbol, type_terminals, expr_terminals, assignment_terminals, optional, test_terminals, earlier_argument_terminals, target_terminals, for_terminals, stmt_terminals, stmts_terminals, declaration_terminals, header_terminals, local_terminals, level}
 use Rattle.clight_parts.specs.Builds.{trees}
 use Rattle.clight_parts.specs.Nodes.{make_head, with_local, ForMiddle, FunctionFront}
 use Rattle.clight_parts.specs.Forms.{AsStatement, AsFirst, AsStep, Form, InBinary, InPrefix, InCast, InParenthesis, InIndex, InTarget, InValue, InPortValue, InArguments, InIfTest, InWhileTest, InDoTest, InCondition, InReturn, InLocalValue, InIf, InElse, InWhile, InDo, InFor, InBlock, InLocals, InBody, Mode, Operand, CastWords, Refused}

@@ -1,15 +1,15 @@
 -- What the machine has read inside a statement is what its open forms and its mode spell.
 use Rattle.std.proofs.Common.{◌≡◌, List, [], ◌∷◌, ◌++◌, refl, sym, ap, ◌∙◌, append_assoc, append-nil}
 use Rattle.std.specs.Prelude.{Option, Some, None, flat_map}
-use Rattle.clight_syntax.specs.declared.span.Span.{Span}
-use Rattle.clight_syntax.specs.declared.symbol.Symbol.{Symbol}
-use Rattle.clight_syntax.specs.declared.symbol.Symbol.TheVariants as s
-use Rattle.clight_syntax.specs.declared.symbol.Terminal.{Terminal}
-use Rattle.clight_syntax.specs.declared.tree.Name.{Name}
-use Rattle.clight_syntax.specs.declared.tree.Specifiers.{Specifiers}
-use Rattle.clight_syntax.specs.declared.tree.CallTarget.{CallTarget}
-use Rattle.clight_syntax.specs.Trees.{Stmt, Empty, Block, Return}
-use Rattle.clight_syntax.specs.Spelling.{terminal, name_terminal, type_terminals, expr_terminals, optional, test_terminals, target_terminals, call_terminals, stmt_terminals, stmts_terminals, header_terminals, local_terminals}
+use Rattle.clight_source.specs.declared.span.Span.{Span}
+use Rattle.clight_source.specs.declared.symbol.Symbol.{Symbol}
+use Rattle.clight_source.specs.declared.symbol.Symbol.TheVariants as s
+use Rattle.clight_source.specs.declared.symbol.Terminal.{Terminal}
+use Rattle.clight_source.specs.declared.tree.Name.{Name}
+use Rattle.clight_source.specs.declared.tree.Specifiers.{Specifiers}
+use Rattle.clight_source.specs.declared.tree.CallTarget.{CallTarget}
+use Rattle.clight_source.specs.Trees.{Stmt, Empty, Block, Return}
+use Rattle.clight_source.specs.Spelling.{terminal, name_terminal, type_terminals, expr_terminals, optional, test_terminals, target_terminals, call_terminals, stmt_terminals, stmts_terminals, header_terminals, local_terminals}
 use Rattle.clight_parts.specs.Builds.{trees}
 use Rattle.clight_parts.specs.Nodes.{ForStart, ForMiddle}
 use Rattle.clight_parts.specs.Forms.{Place, AsStatement, AsFirst, AsStep, Form, InTarget, InArguments, InCondition, InReturn, InIf, InBlock, InLocals, InBody, Pending, CallPending, ReadPending, DoPending, BreakPending, ContinuePending, Mode, Statement, DoBody}

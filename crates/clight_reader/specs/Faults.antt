@@ -1,9 +1,9 @@
 -- Where a list of terminals first fails to be a program. (The correct-prefix property of a parser: Aho, Lam, Sethi and Ullman,
 -- Compilers, 4.1.3.)
 use Rattle.std.specs.Prelude.{◌≤◌, ◌<◌, ℕ, suc, List, length, take}
-use Rattle.clight_syntax.specs.declared.symbol.Terminal.{Terminal}
-use Rattle.clight_syntax.specs.Trees.{Item}
-use Rattle.clight_syntax.specs.Spelling.{Spells, Begins}
+use Rattle.clight_source.specs.declared.symbol.Terminal.{Terminal}
+use Rattle.clight_source.specs.Trees.{Item}
+use Rattle.clight_source.specs.Spelling.{Spells, Begins}
 
 -- The terminals are no program. Those before the one at i begin some program, and with it they begin none; or there is none at
 -- i, and all of them begin some program.

@@ -1,11 +1,11 @@
 -- What the parser holds between two terminals, and what its answers say of them.
 use Rattle.std.specs.Prelude.{◌≡◌, true, false, ℕ, List, map, Option, Some, None, Result, Ok, Err}
-use Rattle.clight_syntax.specs.declared.symbol.Terminal.{Terminal}
-use Rattle.clight_syntax.specs.declared.tree.Item.{Item}
-use Rattle.clight_syntax.specs.Trees as t
-use Rattle.clight_syntax.specs.Spelling.{Spells}
-use Rattle.clight_syntax.specs.Depth.{IsFirstDeep}
-use Rattle.clight_syntax.specs.Views.{item_of}
+use Rattle.clight_source.specs.declared.symbol.Terminal.{Terminal}
+use Rattle.clight_source.specs.declared.tree.Item.{Item}
+use Rattle.clight_source.specs.Trees as t
+use Rattle.clight_source.specs.Spelling.{Spells}
+use Rattle.clight_source.specs.Depth.{IsFirstDeep}
+use Rattle.clight_source.specs.Code.Views.{item_of}
 use Rattle.clight_reader.specs.declared.reading.ParseFault.{ParseFault}
 use Rattle.clight_reader.specs.declared.reading.ParseFault.TheVariants.{Syntax, Nesting, OutOfMemory}
 use Rattle.clight_reader.specs.declared.reading.Reading.{Reading}

@@ -5,11 +5,11 @@ use Rattle.cerco_base.specs.declared.reasons.Fault.{Fault}
 use Rattle.cerco_base.specs.declared.reasons.Fault.TheVariants.{Refused, OutOfMemory}
 use Rattle.cerco_base.specs.declared.reasons.Reason.{Reason}
 use Rattle.cerco_base.specs.declared.reasons.Reason.TheVariants as r
-use Rattle.clight_syntax.specs.Depth.{IsFirstDeep}
-use Rattle.clight_syntax.specs.Spelling.{Spells}
-use Rattle.clight_syntax.specs.Symbols.{terminals_of}
-use Rattle.clight_syntax.specs.Tokens.{Token, Tokenised, HasTokens, HasFault}
-use Rattle.clight_syntax.specs.Trees.{Item}
+use Rattle.clight_source.specs.Depth.{IsFirstDeep}
+use Rattle.clight_source.specs.Spelling.{Spells}
+use Rattle.clight_tokens.specs.Symbols.{terminals_of}
+use Rattle.clight_tokens.specs.Tokens.{Token, Tokenised, HasTokens, HasFault}
+use Rattle.clight_source.specs.Trees.{Item}
 use Rattle.clight_reader.specs.Faults.{FaultAt}
 
 -- where the i-th token begins, or the text's length where there is none

@@ -1,10 +1,10 @@
 //! What the definitions of spelling and of faults say of one another.
 
 ghost use Rattle.std.specs.Prelude.{◌≡◌, ◌⊎◌, ℕ, List};
-ghost use Rattle.clight_syntax.specs.declared.symbol.Terminal.{Terminal};
-ghost use Rattle.clight_syntax.specs.Trees.{Item};
-ghost use Rattle.clight_syntax.specs.Spelling.{Spells};
-ghost use Rattle.clight_syntax.specs.Depth.{IsShallow, IsFirstDeep};
+ghost use Rattle.clight_source.specs.declared.symbol.Terminal.{Terminal};
+ghost use Rattle.clight_source.specs.Trees.{Item};
+ghost use Rattle.clight_source.specs.Spelling.{Spells};
+ghost use Rattle.clight_source.specs.Depth.{IsShallow, IsFirstDeep};
 ghost use Rattle.clight_reader.specs.Faults.{FaultAt};
 
 /// Terminal symbols spell at most one list of items.

@@ -11,7 +11,7 @@ use clight_declarations::declarations::in_declaration;
 use clight_parts::forms::{Form, Mode};
 use clight_statements::marks::behind;
 use clight_statements::statements::in_statement;
-use clight_syntax::symbol::Terminal;
+use clight_source::symbol::Terminal;
 use std::alloc::Global;
 
 /// Reads one terminal symbol.

@@ -1,16 +1,16 @@
 //! From tokens to the syntax tree.
 
 ghost use Rattle.std.specs.Prelude.{◌≡◌, IfOk, IfErr, map, slice_index_or};
-ghost use Rattle.clight_syntax.specs.SourceTrees.{IsTreeOf};
-ghost use Rattle.clight_syntax.specs.Symbols.{terminals_of};
-ghost use Rattle.clight_syntax.specs.Tokens.{Tokenised};
-ghost use Rattle.clight_syntax.specs.Views.{program_of};
+ghost use Rattle.clight_tokens.specs.SourceTrees.{IsTreeOf};
+ghost use Rattle.clight_tokens.specs.Symbols.{terminals_of};
+ghost use Rattle.clight_tokens.specs.Tokens.{Tokenised};
+ghost use Rattle.clight_source.specs.Code.Views.{program_of};
 ghost use Rattle.clight_reader.specs.Readings.{IsFault};
 ghost use Rattle.clight_reader.specs.Reasons.{HasNoTree};
 
 use crate::reading::{ParseFault, parse_terminals};
 use cerco_base::{Fault, Reason};
-use clight_syntax::{Program, Span, Terminal};
+use clight_source::{Program, Span, Terminal};
 use clight_tokens::{TerminalList, TokenList, terminals};
 use std::alloc::Global;
 

@@ -1,9 +1,9 @@
 //! From terminal symbols to the items of a program.
 
 ghost use Rattle.std.specs.Prelude.{◌≡◌, List, map, option_map, IfOk, IfErr};
-ghost use Rattle.clight_syntax.specs.Spelling.{Spells};
-ghost use Rattle.clight_syntax.specs.Depth.{IsShallow};
-ghost use Rattle.clight_syntax.specs.Views.{item_of};
+ghost use Rattle.clight_source.specs.Spelling.{Spells};
+ghost use Rattle.clight_source.specs.Depth.{IsShallow};
+ghost use Rattle.clight_source.specs.Code.Views.{item_of};
 ghost use Rattle.clight_parts.specs.Builds.{limited};
 ghost use Rattle.clight_parts.specs.Forms as o;
 ghost use Rattle.clight_parts.specs.Machine as s;
@@ -15,12 +15,12 @@ use cerco_base::NoMemory;
 use clight_parts::declaration_nodes::more_items;
 use clight_parts::forms::{DeclarationMode, Form, Mode};
 use clight_parts::part::Noted;
-use clight_syntax::symbol::Terminal;
-use clight_syntax::tree::Item;
+use clight_source::symbol::Terminal;
+use clight_source::tree::Item;
 use std::alloc::Global;
 
 /// Why terminal symbols aren't those of a program within the limit.
-#[derive(Clone, Copy, Debug, PartialEq, Eq)]
+#[derive(Clone, Copy)]
 pub enum ParseFault {
     /// The number of the first terminal symbol that can't stand there, or the number of all.
     Syntax(usize),

@@ -21,9 +21,9 @@ use clight_parts::nodes::{
 use clight_parts::part::Part;
 use clight_parts::stack::{operand_in, pop, refuse_behind, refuse_operand, start_in};
 use clight_parts::statement_nodes::{assign, return_statement, write_port};
-use clight_syntax::span::Span;
-use clight_syntax::symbol::{Symbol, Terminal};
-use clight_syntax::tree::{CallTarget, Expr, MemberOperator, Name};
+use clight_source::span::Span;
+use clight_source::symbol::{Symbol, Terminal};
+use clight_source::tree::{CallTarget, Expr, MemberOperator, Name};
 use std::alloc::Global;
 
 fn refuse_value(_e: Part<Expr>, _place: Place, _target: Part<Expr>) -> Mode

@@ -22,9 +22,9 @@ use clight_parts::statement_nodes::{
     no_statements, read_port, return_statement,
 };
 use clight_parts::words::first_word;
-use clight_syntax::span::Span;
-use clight_syntax::symbol::{Symbol, Terminal};
-use clight_syntax::tree::{Arguments, CallTarget, Name, Specifiers, Stmt};
+use clight_source::span::Span;
+use clight_source::symbol::{Symbol, Terminal};
+use clight_source::tree::{Arguments, CallTarget, Name, Specifiers, Stmt};
 use std::alloc::Global;
 
 /// A simple statement with its `;`.

@@ -4,13 +4,13 @@ use Rattle.std.proofs.Common.{◌≡◌, ℕ, false, [], ◌∷◌, Some, None, 
 use Rattle.std.specs.Fmt.{digits}
 use Rattle.std.specs.List.{range_with_len}
 use Rattle.cerco_base.specs.declared.events.Label.{Label}
-use Rattle.clight_syntax.specs.declared.span.Span.{Span}
-use Rattle.clight_syntax.specs.declared.symbol.Literal.{Literal}
-use Rattle.clight_syntax.specs.declared.symbol.Radix.TheVariants.{Decimal}
-use Rattle.clight_syntax.specs.declared.tree.Name.{Name}
-use Rattle.clight_syntax.specs.declared.tree.Specifiers.TheVariants as w
-use Rattle.clight_syntax.specs.Trees.{NoParameters}
-use Rattle.clight_syntax.specs.Types.{CType, Integer, Void, One}
+use Rattle.clight_source.specs.declared.span.Span.{Span}
+use Rattle.clight_source.specs.declared.symbol.Literal.{Literal}
+use Rattle.clight_source.specs.declared.symbol.Radix.TheVariants.{Decimal}
+use Rattle.clight_source.specs.declared.tree.Name.{Name}
+use Rattle.clight_source.specs.declared.tree.Specifiers.TheVariants as w
+use Rattle.clight_source.specs.Trees.{NoParameters}
+use Rattle.c_types.specs.Types.{CType, Integer, Void, One}
 use Rattle.clight_syntax.specs.TypedTrees.{Variable, Number, Cond, Truth, InParentheses, Not, Both, Either, Assignment, Test, NoArguments, Call, ForHead, Empty, Block, Assign, ReadPort, WritePort, CallOf, If, IfElse, While, Do, For, Break, Continue, Return, Stmts, NoStmts, Then, TypedProgram}
 use Rattle.clight_syntax.specs.Annotations.{Costs, annotated}
 use Rattle.clight_syntax.specs.Labelling.{points_of, without_labels, IsLabelled}

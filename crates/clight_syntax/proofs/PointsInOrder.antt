@@ -2,7 +2,7 @@
 use Rattle.std.proofs.Common.{◌≡◌, ℕ, ◌≤◌, List, [], ◌∷◌, ◌++◌, Option, Some, None, option_map, map, refl, sym, ap, ap₂, ◌∙◌, subst, arith}
 use Rattle.std.specs.List.{flat_map}
 use Rattle.cerco_base.specs.declared.events.Label.{Label}
-use Rattle.clight_syntax.specs.declared.span.Span.{Span}
+use Rattle.clight_source.specs.declared.span.Span.{Span}
 use Rattle.clight_syntax.specs.declared.points.Piece.{Piece}
 use Rattle.clight_syntax.specs.declared.points.Piece.TheVariants.{After, ArmOpen, ArmClose, ThenClose, BodyClose, DoOpen, DoClose, CondOpen, CondRepeat}
 use Rattle.clight_syntax.specs.declared.points.Point.{Point}

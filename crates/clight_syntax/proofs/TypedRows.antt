@@ -1,10 +1,10 @@
 -- The statements of a typed block are the list that its `Vec` holds.
 use Rattle.std.proofs.Common.{◌≡◌, List, [], ◌∷◌, ◌++◌, Vec, Global, refl, ap, ◌∙◌}
-use Rattle.clight_syntax.specs.declared.span.Span.{Span}
+use Rattle.clight_source.specs.declared.span.Span.{Span}
 use Rattle.clight_syntax.specs.declared.typed.Stmt.{Stmt, Row_of-Stmt, end_of-Stmt, more_of-Stmt, items-the_row-Stmt, items_hidden-the_row-Stmt-0}
 use Rattle.clight_syntax.specs.declared.typed.Stmt.TheVariants.{Block, Block'}
 use Rattle.clight_syntax.specs.TypedTrees as p
-use Rattle.clight_syntax.specs.TypedViews.{stmt_of, row_onto, stmts_onto, stmts_of}
+use Rattle.clight_syntax.specs.Code.TypedViews.{stmt_of, row_onto, stmts_onto, stmts_of}
 use mathlib.Core.Former.{Count}
 
 abbrev row_of : {L : Type 0} → Stmt L → (n : Count) × Row_of-Stmt L n

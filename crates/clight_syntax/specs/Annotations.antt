@@ -6,7 +6,7 @@ use Rattle.clight_syntax.specs.declared.points.Piece.{Piece}
 use Rattle.clight_syntax.specs.declared.points.Piece.TheVariants.{Start, After, ArmOpen, ArmClose, ThenClose, BodyClose, DoOpen, DoClose, CondOpen, CondBoth, CondRepeat}
 use Rattle.cerco_base.specs.declared.events.Label.{Label}
 use Rattle.clight_syntax.specs.declared.points.Point.{Point}
-use Rattle.clight_syntax.specs.Erasure.{mark}
+use Rattle.clight_source.specs.Markers.{annotation_mark}
 
 -- the cost of the program's start, and of each label by its number, in machine cycles
 pub record Costs : Type 0 where
@@ -37,7 +37,7 @@ inner_text costs (CondRepeat label) = around (codes ")?(__cost+=") (cost_of cost
 
 -- an annotation: a mark, the C text, and a mark
 abbrev pub piece_text : Costs → Piece → List ℕ
-piece_text costs piece = mark ++ (inner_text costs piece ++ mark)
+piece_text costs piece = annotation_mark ++ (inner_text costs piece ++ annotation_mark)
 
 -- a text with another one inserted before the byte at an offset
 abbrev pub with_text_at : ℕ → List ℕ → List ℕ → List ℕ

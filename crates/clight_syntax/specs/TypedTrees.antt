@@ -2,17 +2,17 @@
 -- program's own tree. L is what stands at each place of a cost label: nothing, or the label.
 use Rattle.std.specs.Prelude.{ℕ, List, Option, Some, None, slice_get}
 use Rattle.cerco_base.specs.CallOrder.{Called}
-use Rattle.clight_syntax.specs.declared.span.Span.{Span}
-use Rattle.clight_syntax.specs.declared.symbol.Literal.{Literal}
-use Rattle.clight_syntax.specs.declared.tree.Name.{Name}
-use Rattle.clight_syntax.specs.declared.tree.BinaryOperator.{BinaryOperator}
-use Rattle.clight_syntax.specs.declared.tree.PrefixOperator.{PrefixOperator}
-use Rattle.clight_syntax.specs.declared.tree.MemberOperator.{MemberOperator}
-use Rattle.clight_syntax.specs.declared.tree.Specifiers.{Specifiers}
+use Rattle.clight_source.specs.declared.span.Span.{Span}
+use Rattle.clight_source.specs.declared.symbol.Literal.{Literal}
+use Rattle.clight_source.specs.declared.tree.Name.{Name}
+use Rattle.clight_source.specs.declared.tree.BinaryOperator.{BinaryOperator}
+use Rattle.clight_source.specs.declared.tree.PrefixOperator.{PrefixOperator}
+use Rattle.clight_source.specs.declared.tree.MemberOperator.{MemberOperator}
+use Rattle.clight_source.specs.declared.tree.Specifiers.{Specifiers}
 use Rattle.clight_syntax.specs.declared.typed.ResultTarget.{ResultTarget}
 use Rattle.clight_syntax.specs.declared.typed.Home.{Home}
-use Rattle.clight_syntax.specs.Trees.{Declaration, Global, Header, Prototype, Struct}
-use Rattle.clight_syntax.specs.Types.{CType, StructType}
+use Rattle.clight_source.specs.Trees.{Declaration, Global, Header, Prototype, Struct}
+use Rattle.c_types.specs.Types.{CType, StructType}
 
 -- each form carries its type
 pub data Expr : Type 0 where

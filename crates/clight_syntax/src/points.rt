@@ -7,7 +7,7 @@ use std::marker::Model;
 
 /// An annotation of the source. Its text is C (ISO/IEC 9899:1999); with those of the whole source it adds the cost of each
 /// label to the cost variable where the label is passed.
-#[derive(Clone, Copy, Debug, PartialEq, Eq)]
+#[derive(Clone, Copy)]
 pub enum Piece {
     /// `unsigned long __cost=S;` at the start of the text, with the cost S of the program's start.
     Start,
@@ -34,7 +34,7 @@ pub enum Piece {
 }
 
 /// A place in a source at which an annotation stands.
-#[derive(Clone, Copy, Debug, PartialEq, Eq)]
+#[derive(Clone, Copy)]
 pub struct Point {
     /// The annotation stands before the byte with this offset, counted from 0. At the text's
     /// length it stands at the end.

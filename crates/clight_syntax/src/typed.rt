@@ -3,16 +3,16 @@
 
 ghost use Rattle.std.specs.Prelude.{◌≡◌, slice_index_or};
 
-use crate::names::Names;
 use crate::points::Points;
-use crate::span::Span;
-use crate::symbol::Literal;
-use crate::tree::{
+use c_types::Ty;
+use cerco_base::{CallOrder, Label};
+use clight_source::names::Names;
+use clight_source::span::Span;
+use clight_source::symbol::Literal;
+use clight_source::tree::{
     BinaryOperator, CallTarget, Declaration, Global, Header, MemberOperator, Name, PrefixOperator,
     Prototype, Specifiers, StructDefinition,
 };
-use crate::types::Ty;
-use cerco_base::{CallOrder, Label};
 
 /// An expression with its type, the first field of each form.
 #[derive(Drop)]
@@ -86,7 +86,7 @@ pub enum Arguments {
 }
 
 /// The variable that takes a call's result.
-#[derive(Clone, Copy, Debug, PartialEq, Eq)]
+#[derive(Clone, Copy)]
 pub struct ResultTarget {
     /// The variable's number.
     pub variable: u32,
@@ -203,7 +203,7 @@ pub enum Item {
 }
 
 /// Where a variable lives.
-#[derive(Clone, Copy, Debug, PartialEq, Eq)]
+#[derive(Clone, Copy)]
 pub enum Home {
     /// The program's block with this number. The globals are numbered from 0 in the order of their declarations.
     Global(u32),
@@ -270,7 +270,7 @@ pub struct TypedProgram<L: Drop> {
 }
 
 impl<L: Drop> TypedProgram<L> {
-    ghost use Rattle.clight_syntax.specs.TypedViews.{program_of};
+    ghost use Rattle.clight_syntax.specs.Code.TypedViews.{program_of};
     ghost use Rattle.clight_syntax.specs.TypedTrees.{address_at};
 
     /// The functions by number, each with those that call it, and each caller before those that it calls.
@@ -320,7 +320,7 @@ pub struct Labelled {
 }
 
 impl Labelled {
-    ghost use Rattle.clight_syntax.specs.TypedViews.{labelled_of};
+    ghost use Rattle.clight_syntax.specs.Code.TypedViews.{labelled_of};
     ghost use Rattle.clight_syntax.specs.TypedTrees.{address_at};
 
     /// As `TypedProgram::call_order`.

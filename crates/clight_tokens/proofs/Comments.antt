@@ -2,10 +2,10 @@
 use Rattle.std.proofs.Common.{◌≡◌, ◌≤◌, ℕ, zero, suc, Bool, true, false, List, [], ◌∷◌, take, length, refl, arith}
 use Rattle.std.specs.Prelude.{◌||◌, ◌==◌, cond, Option, Some, None}
 use Rattle.std.proofs.Math.Seq.{take-length}
-use Rattle.clight_syntax.specs.Lexemes.{Kind, in_line, is_close, has_no_close, ends_at_close, is_punctuator, is_lexeme, IsLongest}
-use Rattle.clight_syntax.specs.Lexemes as k
-use Rattle.clight_syntax.specs.Tokens.{first_pair, one_on}
-use Rattle.clight_tokens.specs.Views.{run_length}
+use Rattle.clight_tokens.specs.Lexemes.{Kind, in_line, is_close, has_no_close, ends_at_close, is_punctuator, is_lexeme, IsLongest}
+use Rattle.clight_tokens.specs.Lexemes as k
+use Rattle.clight_tokens.specs.Tokens.{first_pair, one_on}
+use Rattle.clight_tokens.specs.Code.Views.{run_length}
 use Rattle.clight_tokens.proofs.PunctuatorTable.{and_right, no_comment}
 use Rattle.clight_tokens.proofs.Longer.{run_within, run_all, run_most}
 

@@ -2,9 +2,9 @@
 use Rattle.std.proofs.Common.{◌≡◌, ℕ, Bool, true, false, List, [], ◌∷◌, refl, arith}
 use Rattle.std.specs.Prelude.{◌&&◌, ◌||◌, ◌==◌}
 use Rattle.std.proofs.lemmas.Bool.Decides.{nat_tests}
-use Rattle.clight_syntax.specs.Lexemes.{Kind, is_blank, is_digit, is_letter, is_punctuator, is_lexeme}
-use Rattle.clight_syntax.specs.Lexemes as k
-use Rattle.clight_tokens.specs.Views.{begins_comment}
+use Rattle.clight_tokens.specs.Lexemes.{Kind, is_blank, is_digit, is_letter, is_punctuator, is_lexeme}
+use Rattle.clight_tokens.specs.Lexemes as k
+use Rattle.clight_tokens.specs.Code.Views.{begins_comment}
 use Rattle.clight_tokens.proofs.PunctuatorTable.{and_left, and_right, first_alone, no_letter, no_digit, no_blank}
 
 abbrev pub Head : Kind → ℕ → Type 0

@@ -10,3 +10,4 @@ pub mod OneAnswer
 pub mod Spans
 pub mod NameLists
 pub mod Numbering
+mod TokenExamples

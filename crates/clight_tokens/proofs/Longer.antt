@@ -4,9 +4,9 @@ use Rattle.std.proofs.lemmas.List.{length-take-le}
 use Rattle.std.proofs.lemmas.Bool.{cases_lt}
 use Rattle.std.specs.Prelude.{◌&&◌, cond}
 use Rattle.std.specs.List.{list_all}
-use Rattle.clight_syntax.specs.Lexemes.{Kind, is_blank, is_digit, is_letter, is_word_byte, is_one_byte, is_punctuator, is_lexeme, IsLongest, HasNoLexeme}
-use Rattle.clight_syntax.specs.Lexemes as k
-use Rattle.clight_tokens.specs.Views.{run_length, begins_comment, begins_double, begins_triple}
+use Rattle.clight_tokens.specs.Lexemes.{Kind, is_blank, is_digit, is_letter, is_word_byte, is_one_byte, is_punctuator, is_lexeme, IsLongest, HasNoLexeme}
+use Rattle.clight_tokens.specs.Lexemes as k
+use Rattle.clight_tokens.specs.Code.Views.{run_length, begins_comment, begins_double, begins_triple}
 use Rattle.clight_tokens.proofs.PunctuatorTable.{and_right, at_most_three, not_empty}
 use Rattle.clight_tokens.proofs.Heads.{Head, head, letter_alone, digit_alone, blank_alone, punctuator_alone}
 

@@ -6,13 +6,13 @@ use Rattle.std.specs.List.{list_any, position, prefix_len}
 use Rattle.std.specs.Str.{bytes_eq}
 use Rattle.std.proofs.lemmas.List.{drop_all, length-map, map-append}
 use Rattle.indexmap.specs.IndexSet.{insert_key}
-use Rattle.clight_syntax.specs.declared.span.Span.{Span}
-use Rattle.clight_syntax.specs.declared.symbol.Terminal.{Terminal}
-use Rattle.clight_syntax.specs.declared.symbol.Symbol.{Symbol}
-use Rattle.clight_syntax.specs.Symbols.{is_name, with_name, keyword_of, name_symbol, word_symbol}
-use Rattle.clight_syntax.specs.Tokens as s
-use Rattle.clight_tokens.specs.SymbolViews.{with_token}
-use Rattle.clight_tokens.specs.TokenViews.{token_of}
+use Rattle.clight_source.specs.declared.span.Span.{Span}
+use Rattle.clight_source.specs.declared.symbol.Terminal.{Terminal}
+use Rattle.clight_source.specs.declared.symbol.Symbol.{Symbol}
+use Rattle.clight_tokens.specs.Symbols.{is_name, with_name, keyword_of, name_symbol, word_symbol}
+use Rattle.clight_tokens.specs.Tokens as s
+use Rattle.clight_tokens.specs.Code.SymbolViews.{with_token}
+use Rattle.clight_tokens.specs.Code.TokenViews.{token_of}
 use Rattle.clight_tokens.specs.declared.token_list.Token.{Token}
 
 abbrev pub texts : List (Bor (List ℕ)) → List (List ℕ)

@@ -8,11 +8,11 @@ use Rattle.std.proofs.lemmas.Slice.Eq.{bytes_eq-Decides}
 use Rattle.std.proofs.lemmas.List.Folds.{list_any-append}
 use Rattle.std.proofs.lemmas.List.Sums.{passes_at_first}
 use Rattle.std.proofs.lemmas.Option.{slice_get-get_or}
-use Rattle.clight_syntax.specs.declared.symbol.Symbol.{Symbol}
-use Rattle.clight_syntax.specs.Lexemes.{is_letter}
-use Rattle.clight_syntax.specs.Symbols.{is_name, with_name, names_of, keyword_of, IsNumbered}
-use Rattle.clight_syntax.specs.Tokens.{Token}
-use Rattle.clight_tokens.specs.SymbolViews.{with_token}
+use Rattle.clight_source.specs.declared.symbol.Symbol.{Symbol}
+use Rattle.clight_tokens.specs.Lexemes.{is_letter}
+use Rattle.clight_tokens.specs.Symbols.{is_name, with_name, names_of, keyword_of, IsNumbered}
+use Rattle.clight_tokens.specs.Tokens.{Token}
+use Rattle.clight_tokens.specs.Code.SymbolViews.{with_token}
 use Rattle.clight_tokens.proofs.PunctuatorTable.{and_left, and_right}
 use Rattle.clight_tokens.proofs.NameLists.{names_among, one_more}
 

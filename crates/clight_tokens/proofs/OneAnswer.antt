@@ -5,9 +5,9 @@ use Rattle.std.proofs.lemmas.Bool.{cases_lt}
 use Rattle.cerco_base.specs.declared.reasons.Fault.TheVariants.{Refused}
 use Rattle.cerco_base.specs.declared.reasons.Reason.{Reason}
 use Rattle.cerco_base.specs.declared.reasons.Reason.TheVariants as r
-use Rattle.clight_syntax.specs.Lexemes.{is_source_byte}
-use Rattle.clight_syntax.specs.Erasure.{HasNoMarker}
-use Rattle.clight_syntax.specs.Tokens.{Token, HasTokens, HasFault, HasSourceBytes, IsFirstWrongByte, IsFirstMarker}
+use Rattle.clight_tokens.specs.Lexemes.{is_source_byte}
+use Rattle.clight_source.specs.Markers.{HasNoMarker}
+use Rattle.clight_tokens.specs.Tokens.{Token, HasTokens, HasFault, HasSourceBytes, IsFirstWrongByte, IsFirstMarker}
 use Rattle.clight_tokens.proofs.PunctuatorTable.{and_left, and_right}
 use Rattle.clight_tokens.proofs.Unique.{tokens_or_fault, one_fault}
 

@@ -1,10 +1,10 @@
 -- The longest thing at a place, in the words of the code.
 use Rattle.std.proofs.Common.{◌≡◌, ◌≤◌, ◌<◌, ℕ, zero, suc, ◌+◌, Bool, true, false, List, [], ◌∷◌, drop, get_or, length, refl, ap, ◌∙◌, ◌-◌, add-one, arith}
 use Rattle.std.specs.Prelude.{◌==◌, ◌&&◌, ◌||◌, Option, Some, None}
-use Rattle.clight_syntax.specs.Lexemes.{is_blank, is_digit, is_letter, is_word_byte, in_line, is_close, is_punctuator, IsLongest, HasNoLexeme}
-use Rattle.clight_syntax.specs.Lexemes as k
-use Rattle.clight_syntax.specs.Tokens.{first_pair, one_on}
-use Rattle.clight_tokens.specs.Views.{run_length, begins_comment, begins_double, begins_triple}
+use Rattle.clight_tokens.specs.Lexemes.{is_blank, is_digit, is_letter, is_word_byte, in_line, is_close, is_punctuator, IsLongest, HasNoLexeme}
+use Rattle.clight_tokens.specs.Lexemes as k
+use Rattle.clight_tokens.specs.Tokens.{first_pair, one_on}
+use Rattle.clight_tokens.specs.Code.Views.{run_length, begins_comment, begins_double, begins_triple}
 use Rattle.clight_tokens.proofs.Longer.{longest_word, longest_number, longest_blank, longest_triple, longest_double, longest_single, nothing_at}
 use Rattle.clight_tokens.proofs.Comments.{Closes, closes, longest_line, longest_block, longest_open}
 

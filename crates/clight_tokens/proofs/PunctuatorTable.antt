@@ -5,8 +5,8 @@ use Rattle.std.specs.List.{list_all, list_any}
 use Rattle.std.specs.Str.{bytes_eq}
 use Rattle.std.proofs.lemmas.Bool.Decides.{nat_tests}
 use Rattle.std.proofs.lemmas.Slice.Eq.{bytes_eq-Decides}
-use Rattle.clight_syntax.specs.Lexemes.{is_blank, is_digit, is_letter, punctuators, is_punctuator}
-use Rattle.clight_tokens.specs.Views.{begins_comment}
+use Rattle.clight_tokens.specs.Lexemes.{is_blank, is_digit, is_letter, punctuators, is_punctuator}
+use Rattle.clight_tokens.specs.Code.Views.{begins_comment}
 
 pub and_left : (a b : Bool) → (a && b) ≡ true → a ≡ true
 and_left true b h = refl

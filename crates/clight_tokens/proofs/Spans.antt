@@ -1,6 +1,6 @@
 -- The tokens of a text stand one behind the other.
 use Rattle.std.proofs.Common.{◌≡◌, ◌≤◌, ℕ, ◌+◌, List, [], ◌∷◌, drop, length, subst, arith, length-drop}
-use Rattle.clight_syntax.specs.Tokens.{Token, TokensFrom, at_end, gap, token, AreAscending}
+use Rattle.clight_tokens.specs.Tokens.{Token, TokensFrom, at_end, gap, token, AreAscending}
 
 earlier : (p q : ℕ) (l : List Token) (e : ℕ) → p ≤ q → AreAscending q l e → AreAscending p l e
 earlier p q [] e h a = omega arith

@@ -2,10 +2,10 @@
 use Rattle.std.proofs.Common.{◌≡◌, ◌≤◌, ◌<◌, ℕ, ◌+◌, Bool, true, false, List, [], ◌∷◌, ◌++◌, take, drop, length, refl, sym, subst, append_assoc, arith}
 use Rattle.std.specs.Prelude.{Some, None, cond}
 use Rattle.std.proofs.lemmas.List.{drop-drop, drop_all}
-use Rattle.clight_syntax.specs.Lexemes.{Kind, IsLongest, HasNoLexeme}
-use Rattle.clight_syntax.specs.Tokens.{Token, TokensFrom, gap, token, FaultFrom, nothing, wrong, later, is_token, flaw}
-use Rattle.clight_syntax.specs.Tokens as t
-use Rattle.clight_tokens.specs.TokenViews.{kept}
+use Rattle.clight_tokens.specs.Lexemes.{Kind, IsLongest, HasNoLexeme}
+use Rattle.clight_tokens.specs.Tokens.{Token, TokensFrom, gap, token, FaultFrom, nothing, wrong, later, is_token, flaw}
+use Rattle.clight_tokens.specs.Tokens as t
+use Rattle.clight_tokens.specs.Code.TokenViews.{kept}
 
 onward : (s : List ℕ) (at n : ℕ) → drop (at + n) s ≡ drop n (drop at s)
 onward s at n = sym (drop-drop n at s)

@@ -3,10 +3,10 @@ use Rattle.std.proofs.Common.{◌≡◌, ◌≢◌, ◌≤◌, ℕ, ◌+◌, Boo
 use Rattle.std.specs.Prelude.{◌&&◌, ◌||◌, ◌==◌, Option, Some, None}
 use Rattle.std.specs.List.{list_all}
 use Rattle.std.proofs.lemmas.Bool.Decides.{nat_tests}
-use Rattle.clight_syntax.specs.Lexemes.{Kind, is_blank, is_digit, is_letter, in_line, has_no_close, ends_at_close, has_front, is_punctuator, is_lexeme, IsLongest, HasNoLexeme}
-use Rattle.clight_syntax.specs.Lexemes as k
-use Rattle.clight_syntax.specs.Tokens.{Token, TokensFrom, at_end, gap, token, FaultFrom, nothing, wrong, later, is_token, flaw}
-use Rattle.clight_tokens.specs.Views.{begins_comment}
+use Rattle.clight_tokens.specs.Lexemes.{Kind, is_blank, is_digit, is_letter, in_line, has_no_close, ends_at_close, has_front, is_punctuator, is_lexeme, IsLongest, HasNoLexeme}
+use Rattle.clight_tokens.specs.Lexemes as k
+use Rattle.clight_tokens.specs.Tokens.{Token, TokensFrom, at_end, gap, token, FaultFrom, nothing, wrong, later, is_token, flaw}
+use Rattle.clight_tokens.specs.Code.Views.{begins_comment}
 use Rattle.clight_tokens.proofs.PunctuatorTable.{and_left, and_right, no_letter, no_digit, no_blank, no_comment}
 use Rattle.clight_tokens.proofs.Longer.{empty_none}
 use Rattle.clight_tokens.proofs.Heads.{Head, head, same_byte, letter_alone, digit_alone, blank_alone}

@@ -4,10 +4,10 @@ use Rattle.std.proofs.lemmas.List.{drop_all, length-map}
 use Rattle.std.specs.Prelude.{◌&&◌, nat_lt, nat_le, fold, cond, Option, Some, None}
 use Rattle.std.specs.List.{list_all}
 use Rattle.std.proofs.lemmas.Bool.Decides.{nat_tests}
-use Rattle.clight_syntax.specs.declared.symbol.Radix.{Radix}
-use Rattle.clight_syntax.specs.declared.symbol.Radix.TheVariants as x
-use Rattle.clight_syntax.specs.declared.symbol.Literal.{Literal}
-use Rattle.clight_syntax.specs.Constants.{base, digit_value, number_in, is_constant, is_unsigned, without_suffix, radix_of, digits_of, constant_with, constant_of}
+use Rattle.clight_source.specs.declared.symbol.Radix.{Radix}
+use Rattle.clight_source.specs.declared.symbol.Radix.TheVariants as x
+use Rattle.clight_source.specs.declared.symbol.Literal.{Literal}
+use Rattle.clight_tokens.specs.Constants.{base, digit_value, number_in, is_constant, is_unsigned, without_suffix, radix_of, digits_of, constant_with, constant_of}
 
 -- the value of the digits behind others that have the value n
 abbrev pub number_from : ℕ → ℕ → List ℕ → ℕ

@@ -1,3 +1,6 @@
-pub mod Views
-pub mod TokenViews
-pub mod SymbolViews
+pub mod Lexemes
+pub mod Constants
+pub mod Tokens
+pub mod Symbols
+pub mod SourceTrees
+pub mod Code

@@ -1,10 +1,10 @@
 //! Integer constants (ISO/IEC 9899:1999, 6.4.4.1).
 ghost use Rattle.std.specs.Prelude.{◌≡◌, ◌<◌, ◌≤◌, ◌^◌, map, length, Some, None, OnSome, IfSome};
 ghost use Rattle.std.specs.List.{list_all};
-ghost use Rattle.clight_syntax.specs.Constants as s;
-ghost use Rattle.clight_tokens.specs.Views.{IsValue};
+ghost use Rattle.clight_tokens.specs.Constants as s;
+ghost use Rattle.clight_tokens.specs.Code.Views.{IsValue};
 
-use clight_syntax::{Literal, Radix};
+use clight_source::{Literal, Radix};
 
 /// The largest value of a constant.
 const LARGEST: u32 = 65535;

@@ -1,9 +1,9 @@
 //! The longest of what can stand at a place of a source (ISO/IEC 9899:1999, 6.4).
 ghost use Rattle.std.specs.Prelude.{◌≡◌, true, false, ◌<◌, ◌≤◌, ◌+◌, [], ◌∷◌, length, drop, slice_index, IfSome};
-ghost use Rattle.clight_syntax.specs.Lexemes as s;
-ghost use Rattle.clight_syntax.specs.Tokens as t;
-ghost use Rattle.clight_tokens.specs.Views as v;
-ghost use Rattle.clight_tokens.specs.Views.{test_of, kind_of, IsLexeme, IsLexemeAt, run_length};
+ghost use Rattle.clight_tokens.specs.Lexemes as s;
+ghost use Rattle.clight_tokens.specs.Tokens as t;
+ghost use Rattle.clight_tokens.specs.Code.Views as v;
+ghost use Rattle.clight_tokens.specs.Code.Views.{test_of, kind_of, IsLexeme, IsLexemeAt, run_length};
 
 use crate::bytes::{
     Pair, in_line, is_blank, is_digit, is_double, is_letter, is_pair, is_single, is_triple,
@@ -12,7 +12,7 @@ use crate::bytes::{
 use crate::constants::constant;
 
 /// What can stand at a place.
-#[derive(Clone, Copy, Debug, PartialEq, Eq)]
+#[derive(Clone, Copy)]
 pub enum Kind {
     /// A blank, a tab or a line end.
     Blank,
@@ -31,7 +31,7 @@ pub enum Kind {
 }
 
 /// What stands at a place, and how many bytes it has.
-#[derive(Clone, Copy, Debug, PartialEq, Eq)]
+#[derive(Clone, Copy)]
 pub struct Lexeme {
     pub kind: Kind,
     pub len: usize,

@@ -2,17 +2,17 @@
 ghost use Rattle.std.specs.Prelude.{ℕ, List, ◌≡◌, ◌<◌, ◌++◌, ◌∷◌, [], length, map, take, drop, ◌≤◌, IfOk, IfErr, OnOk, IsOk, MatchOption, Some, None};
 ghost use Rattle.cerco_base.specs.declared.reasons.Fault.TheVariants as Fault;
 ghost use Rattle.cerco_base.specs.declared.reasons.Reason.{Reason};
-ghost use Rattle.clight_syntax.specs.Erasure.{HasNoMarker};
-ghost use Rattle.clight_syntax.specs.Tokens.{Token, TokensFrom, FaultFrom, HasFault, HasTokens, HasSourceBytes, IsFirstMarker, IsFirstWrongByte};
-ghost use Rattle.clight_tokens.specs.Views.{kind_of};
-ghost use Rattle.clight_tokens.specs.TokenViews.{token_of, kept, AllSourceBytes, IsScanFault};
-ghost use Rattle.clight_syntax.specs.Tokens as s;
+ghost use Rattle.clight_source.specs.Markers.{HasNoMarker};
+ghost use Rattle.clight_tokens.specs.Tokens.{Token, TokensFrom, FaultFrom, HasFault, HasTokens, HasSourceBytes, IsFirstMarker, IsFirstWrongByte};
+ghost use Rattle.clight_tokens.specs.Code.Views.{kind_of};
+ghost use Rattle.clight_tokens.specs.Code.TokenViews.{token_of, kept, AllSourceBytes, IsScanFault};
+ghost use Rattle.clight_tokens.specs.Tokens as s;
 
 use crate::bytes::is_source_byte;
 use crate::lexemes::{Kind, flaw, longest};
 use crate::token_list::{Token, TokenList};
 use cerco_base::{Fault, Reason};
-use clight_syntax::Span;
+use clight_source::Span;
 use std::alloc::{AllocError, Global};
 
 fn is_token(kind: Kind) -> bool

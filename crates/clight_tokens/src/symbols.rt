@@ -1,17 +1,17 @@
 //! The tokens of a source as the grammar sees them.
 ghost use Rattle.std.specs.Prelude.{◌≡◌, ◌<◌, ◌≤◌, ◌+◌, ◌^◌, ◌++◌, ◌∷◌, List, length, map, IfOk, OnOk, IsTrue};
 ghost use Rattle.indexmap.specs.IndexSet.{index_set_len};
-ghost use Rattle.clight_syntax.specs.Symbols as s;
-ghost use Rattle.clight_syntax.specs.Tokens as k;
-ghost use Rattle.clight_tokens.specs.TokenViews.{token_of};
-ghost use Rattle.clight_tokens.specs.SymbolViews.{spellings, with_token};
+ghost use Rattle.clight_tokens.specs.Symbols as s;
+ghost use Rattle.clight_tokens.specs.Tokens as k;
+ghost use Rattle.clight_tokens.specs.Code.TokenViews.{token_of};
+ghost use Rattle.clight_tokens.specs.Code.SymbolViews.{spellings, with_token};
 
 use crate::bytes::{is_digit, is_letter};
 use crate::constants::constant;
 use crate::tables::{keyword, mark};
 use crate::token_list::{Token, TokenList};
 use cerco_base::NoMemory;
-use clight_syntax::{Names, Symbol, Terminal};
+use clight_source::{Names, Symbol, Terminal};
 use indexmap::IndexSet;
 use std::alloc::{AllocError, Global};
 

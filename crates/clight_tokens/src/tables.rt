@@ -2,10 +2,10 @@
 ghost use Rattle.std.specs.Prelude.{◌≡◌, map};
 ghost use Rattle.std.specs.Str.{bytes_eq};
 ghost use Rattle.std.specs.Map.{lookup};
-ghost use Rattle.clight_syntax.specs.Symbols as s;
-ghost use Rattle.clight_tokens.specs.SymbolViews.{entry_of};
+ghost use Rattle.clight_tokens.specs.Symbols as s;
+ghost use Rattle.clight_tokens.specs.Code.SymbolViews.{entry_of};
 
-use clight_syntax::Symbol;
+use clight_source::Symbol;
 
 /// A spelling and what it is to the grammar.
 #[derive(Clone, Copy)]

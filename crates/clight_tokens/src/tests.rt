@@ -1,6 +1,6 @@
 use crate::{terminals, tokens};
 use cerco_base::{Fault, Reason};
-use clight_syntax::{Literal, Radix, Symbol};
+use clight_source::{Literal, Radix, Symbol};
 use std::alloc::Global;
 use std::process::Abort;
 use std::test::Fail;

@@ -1,11 +1,11 @@
 //! The tokens of a source as a list.
 ghost use Rattle.std.specs.Prelude.{◌≡◌, map, length};
 
-use clight_syntax::Span;
+use clight_source::Span;
 use std::marker::Model;
 
 /// A token: a slice of the source, and where it stands there.
-#[derive(Clone, Copy, Debug)]
+#[derive(Clone, Copy)]
 pub struct Token<'a> {
     /// Its bytes.
     pub text: &'a [u8],
@@ -22,12 +22,12 @@ pub struct TokenList<'a> {
 }
 
 impl<'a> Model for TokenList<'a> {
-    ghost use Rattle.clight_syntax.specs.Tokens.{Tokenised, IsTokenised};
+    ghost use Rattle.clight_tokens.specs.Tokens.{Tokenised, IsTokenised};
 
     ghost Value = { Tokenised };
 
     ghost use Rattle.std.specs.Prelude.{map};
-    ghost use Rattle.clight_tokens.specs.TokenViews.{token_of};
+    ghost use Rattle.clight_tokens.specs.Code.TokenViews.{token_of};
 
     ghost view = { λ l. record { tokens = map token_of l.items.items; length = l.length } };
 
@@ -35,8 +35,8 @@ impl<'a> Model for TokenList<'a> {
 }
 
 impl<'a> TokenList<'a> {
-    ghost use Rattle.clight_syntax.specs.Tokens.{HasTokens, IsTokenised, AreAscending};
-    ghost use Rattle.clight_tokens.specs.TokenViews.{token_of};
+    ghost use Rattle.clight_tokens.specs.Tokens.{HasTokens, IsTokenised, AreAscending};
+    ghost use Rattle.clight_tokens.specs.Code.TokenViews.{token_of};
 
     // These are the tokens of this text.
     pub(crate) fn from_parts(text: &'a [u8], items: Vec<Token<'a>>) -> TokenList<'a>

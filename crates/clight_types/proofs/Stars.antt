@@ -1,6 +1,6 @@
 -- The pointers that stars make, from the innermost one on.
 use Rattle.std.proofs.Common.{◌≡◌, ℕ, zero, suc, ◌+◌, ◌<◌, List, [], ◌∷◌, length, drop, refl, ap, arith, add-one}
-use Rattle.clight_syntax.specs.Types.{CType, Pointer}
+use Rattle.c_types.specs.Types.{CType, Pointer}
 use Rattle.clight_types.specs.Declarations.{pointers_to}
 
 pointer_inside : {A : Type 0} (stars : List A) (type : CType) → Pointer (pointers_to stars type) ≡ pointers_to stars (Pointer type)

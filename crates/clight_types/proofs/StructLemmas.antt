@@ -1,7 +1,7 @@
 -- Structs and members stand at the first places of their tags and names.
 use Rattle.std.proofs.Common.{◌≡◌, ◌∙◌, ℕ, suc, ◌+◌, Bool, true, false, List, [], ◌∷◌, nat_eq, Some, refl, ap, arith}
 use Rattle.std.specs.Prelude.{if◌then◌else◌, slice_get}
-use Rattle.clight_syntax.specs.Types.{Member, StructType}
+use Rattle.c_types.specs.Types.{Member, StructType}
 use Rattle.clight_types.specs.Declarations.{struct_number}
 use Rattle.clight_types.specs.FoundStructs.{tags_of, names_of}
 use Rattle.clight_types.specs.Places.{place_among}

@@ -1,13 +1,13 @@
 -- The types that declarations give (ISO/IEC 9899:1999, 6.7.2 to 6.7.5), and how the members of a struct lie: one after the other,
 -- without gaps.
 use Rattle.std.specs.Prelude.{ℕ, ◌+◌, Bool, true, false, ◌&&◌, List, [], ◌∷◌, length, map, nat_eq, nat_le, if◌then◌else◌}
-use Rattle.clight_syntax.specs.declared.tree.Specifiers.{Specifiers}
-use Rattle.clight_syntax.specs.declared.tree.Specifiers.TheVariants as t
-use Rattle.clight_syntax.specs.declared.tree.Length.{Length}
-use Rattle.clight_syntax.specs.Trees.{Declared, Declaration, EarlierParameter, Parameters, NoParameters, Parameters', Header}
-use Rattle.clight_syntax.specs.Trees as tree
-use Rattle.clight_syntax.specs.Types.{CType, Void, Integer, Pointer, Array, Struct, One, Two, Four, Member, StructType, size_of}
-use Rattle.clight_syntax.specs.Conversions.{unsigned_char, int, unsigned_int, long, unsigned_long}
+use Rattle.clight_source.specs.declared.tree.Specifiers.{Specifiers}
+use Rattle.clight_source.specs.declared.tree.Specifiers.TheVariants as t
+use Rattle.clight_source.specs.declared.tree.Length.{Length}
+use Rattle.clight_source.specs.Trees.{Declared, Declaration, EarlierParameter, Parameters, NoParameters, Parameters', Header}
+use Rattle.clight_source.specs.Trees as tree
+use Rattle.c_types.specs.Types.{CType, Void, Integer, Pointer, Array, Struct, One, Two, Four, Member, StructType, size_of}
+use Rattle.c_types.specs.Conversions.{unsigned_char, int, unsigned_int, long, unsigned_long}
 use Rattle.clight_types.specs.Scopes.{Signature}
 
 -- the number of the struct with this tag; the struct whose members are being declared has the next number

@@ -1,17 +1,18 @@
 -- The types of expressions (ISO/IEC 9899:1999, 6.5), in the compiler's profile. Each form carries its type, and it is the right one
 -- given those that its parts carry. There is one case for each row of the table in `docs/language.md`.
 use Rattle.std.specs.Prelude.{◌≡◌, ℕ, ◌≤◌, Bool, true, false, ◌&&◌, ◌||◌, not, IsTrue, List, [], ◌∷◌, nat_eq, nat_le, Option, Some, None}
-use Rattle.clight_syntax.specs.declared.tree.BinaryOperator.{BinaryOperator}
-use Rattle.clight_syntax.specs.declared.tree.BinaryOperator.TheVariants as b
-use Rattle.clight_syntax.specs.declared.tree.PrefixOperator.{PrefixOperator}
-use Rattle.clight_syntax.specs.declared.tree.PrefixOperator.TheVariants as p
-use Rattle.clight_syntax.specs.declared.tree.MemberOperator.{MemberOperator}
-use Rattle.clight_syntax.specs.declared.tree.MemberOperator.TheVariants as m
-use Rattle.clight_syntax.specs.declared.tree.Name.{Name}
-use Rattle.clight_syntax.specs.declared.tree.Specifiers.{Specifiers}
-use Rattle.clight_syntax.specs.Types.{CType, Pointer, Member, StructType}
+use Rattle.clight_source.specs.declared.tree.BinaryOperator.{BinaryOperator}
+use Rattle.clight_source.specs.declared.tree.BinaryOperator.TheVariants as b
+use Rattle.clight_source.specs.declared.tree.PrefixOperator.{PrefixOperator}
+use Rattle.clight_source.specs.declared.tree.PrefixOperator.TheVariants as p
+use Rattle.clight_source.specs.declared.tree.MemberOperator.{MemberOperator}
+use Rattle.clight_source.specs.declared.tree.MemberOperator.TheVariants as m
+use Rattle.clight_source.specs.declared.tree.Name.{Name}
+use Rattle.clight_source.specs.declared.tree.Specifiers.{Specifiers}
+use Rattle.c_types.specs.Types.{CType, Pointer, Member, StructType}
 use Rattle.clight_syntax.specs.TypedTrees.{Expr, Variable, Number, Parenthesis, Binary, Prefix, Cast, Index, Select, type_at, Cond, Truth, InParentheses, Not, Both, Either}
-use Rattle.clight_syntax.specs.Conversions.{literal_type, promoted, common, int, unsigned_char}
+use Rattle.c_types.specs.Conversions.{promoted, common, int, unsigned_char}
+use Rattle.clight_syntax.specs.LiteralTypes.{literal_type}
 use Rattle.clight_types.specs.Operands.{is_integer, is_pointer, is_scalar, is_array, is_four_bytes, is_value, is_place, is_zero, target_of, value_type, type_eq, Operand, operand, steps_along}
 use Rattle.clight_types.specs.Scopes.{Scope, Object, meaning_of, member_of}
 use Rattle.clight_types.specs.Declarations.{named_type}

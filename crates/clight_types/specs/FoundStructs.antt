@@ -1,6 +1,6 @@
 -- The names by which structs and their members are found.
 use Rattle.std.specs.Prelude.{ℕ, List, map}
-use Rattle.clight_syntax.specs.Types.{Member, StructType}
+use Rattle.c_types.specs.Types.{Member, StructType}
 
 -- the tags of structs, in order
 abbrev pub tags_of : List StructType → List ℕ

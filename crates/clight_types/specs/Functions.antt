@@ -1,17 +1,17 @@
 -- Which declarations and functions are well typed (ISO/IEC 9899:1999, 6.7 and 6.9), in the compiler's profile, and the numbers and
 -- homes of variables.
 use Rattle.std.specs.Prelude.{◌≡◌, ℕ, suc, ◌+◌, ◌≤◌, Bool, true, false, ◌&&◌, ◌||◌, not, IsTrue, List, [], ◌∷◌, ◌++◌, length, map, nat_eq, nat_le, Option, Some, None, if◌then◌else◌}
-use Rattle.clight_syntax.specs.declared.symbol.Literal.{Literal}
-use Rattle.clight_syntax.specs.declared.tree.Name.{Name}
-use Rattle.clight_syntax.specs.declared.tree.SignedNumber.{SignedNumber}
-use Rattle.clight_syntax.specs.declared.tree.EarlierNumber.{EarlierNumber}
+use Rattle.clight_source.specs.declared.symbol.Literal.{Literal}
+use Rattle.clight_source.specs.declared.tree.Name.{Name}
+use Rattle.clight_source.specs.declared.tree.SignedNumber.{SignedNumber}
+use Rattle.clight_source.specs.declared.tree.EarlierNumber.{EarlierNumber}
 use Rattle.clight_syntax.specs.declared.typed.Home.{Home}
 use Rattle.clight_syntax.specs.declared.typed.Home.TheVariants as h
-use Rattle.clight_syntax.specs.Trees.{Declared, Declaration, Header, Initialiser, NoInitialiser, Single, Listed, Global}
-use Rattle.clight_syntax.specs.Trees as tree
-use Rattle.clight_syntax.specs.Types.{CType, Void, Integer, Pointer, Array, Struct, StructType, size_of}
+use Rattle.clight_source.specs.Trees.{Declared, Declaration, Header, Initialiser, NoInitialiser, Single, Listed, Global}
+use Rattle.clight_source.specs.Trees as tree
+use Rattle.c_types.specs.Types.{CType, Void, Integer, Pointer, Array, Struct, StructType, size_of}
 use Rattle.clight_syntax.specs.TypedTrees.{LocalInitialiser, NoValue, Value, Local, Function, Variable'}
-use Rattle.clight_syntax.specs.Conversions.{literal_type}
+use Rattle.clight_syntax.specs.LiteralTypes.{literal_type}
 use Rattle.clight_types.specs.Operands.{is_integer, is_scalar, is_four_bytes, is_assignable, operand, type_eq}
 use Rattle.clight_types.specs.Scopes.{Scope, Signature, Meaning, Object, Code, Named, Meanings, declare, visible}
 use Rattle.clight_types.specs.Declarations.{named_type, declared_type, declaration_type, parameters_of, signature_of, is_size, bytes_of, greatest_parameters, struct_type}

@@ -1,6 +1,6 @@
 -- What the checker's own values stand for.
 use Rattle.std.specs.Prelude.{ℕ}
-use Rattle.clight_syntax.specs.Types.{CType, Integer, Size, One, Two, Four}
+use Rattle.c_types.specs.Types.{CType, Integer, Size, One, Two, Four}
 use Rattle.clight_types.specs.declared.integers.Integer.{Integer as HeldInteger}
 use Rattle.clight_types.specs.declared.integers.Width.{Width}
 use Rattle.clight_types.specs.declared.integers.Width.TheVariants as w

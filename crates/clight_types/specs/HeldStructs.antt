@@ -1,6 +1,6 @@
 -- The structs that the checker holds, as definitions speak of them.
 use Rattle.std.specs.Prelude.{List, map}
-use Rattle.clight_syntax.specs.Types.{StructType}
+use Rattle.c_types.specs.Types.{StructType}
 use Rattle.clight_types.specs.HeldFound.{found_of}
 use Rattle.clight_types.specs.declared.structs.Structs.{Structs}
 

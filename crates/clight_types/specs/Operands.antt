@@ -3,10 +3,10 @@
 use Rattle.std.specs.Prelude.{◌≡◌, ◌≢◌, ℕ, zero, suc, ◌+◌, ◌*◌, ◌/◌, ◌%◌, Bool, true, false, ◌&&◌, ◌||◌, not, IsTrue, List, [], ◌∷◌, nat_eq, nat_lt, nat_le, if◌then◌else◌}
 use Rattle.std.specs.Prelude.{Option, Some, None}
 use Rattle.std.specs.List.{list_any}
-use Rattle.clight_syntax.specs.Types.{CType, Void, Integer, Pointer, Array, Struct, Size, One, Two, Four, StructType, size_of}
+use Rattle.c_types.specs.Types.{CType, Void, Integer, Pointer, Array, Struct, Size, One, Two, Four, StructType, size_of}
 use Rattle.clight_syntax.specs.TypedTrees.{Expr, Variable, Number, Parenthesis, Binary, Prefix, Cast, Index, Select, type_at}
-use Rattle.clight_syntax.specs.declared.tree.PrefixOperator.TheVariants.{Dereference}
-use Rattle.clight_syntax.specs.Conversions.{unsigned_char}
+use Rattle.clight_source.specs.declared.tree.PrefixOperator.TheVariants.{Dereference}
+use Rattle.c_types.specs.Conversions.{unsigned_char}
 
 -- ---- equality of types
 

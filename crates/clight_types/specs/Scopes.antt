@@ -1,6 +1,6 @@
 -- What the names of a program mean where they stand (ISO/IEC 9899:1999, 6.2.1 and 6.2.3), and the members of its structs.
 use Rattle.std.specs.Prelude.{ℕ, List, [], ◌∷◌, nat_eq, Option, Some, None, slice_get, if◌then◌else◌}
-use Rattle.clight_syntax.specs.Types.{CType, Struct, Member, StructType}
+use Rattle.c_types.specs.Types.{CType, Struct, Member, StructType}
 
 -- the types of a function's result and parameters
 pub record Signature : Type 0 where

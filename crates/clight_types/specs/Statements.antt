@@ -1,9 +1,9 @@
 -- Which statements are well typed (ISO/IEC 9899:1999, 6.5.2.2, 6.5.16 and 6.8), in the compiler's profile.
 use Rattle.std.specs.Prelude.{◌≡◌, ℕ, ◌≤◌, Bool, true, false, ◌&&◌, not, IsTrue, List, [], ◌∷◌, ◌++◌, map, nat_eq, nat_le, Option, Some, None}
-use Rattle.clight_syntax.specs.declared.tree.PrefixOperator.{PrefixOperator}
-use Rattle.clight_syntax.specs.declared.tree.PrefixOperator.TheVariants.{AddressOf}
+use Rattle.clight_source.specs.declared.tree.PrefixOperator.{PrefixOperator}
+use Rattle.clight_source.specs.declared.tree.PrefixOperator.TheVariants.{AddressOf}
 use Rattle.clight_syntax.specs.declared.typed.ResultTarget.{ResultTarget}
-use Rattle.clight_syntax.specs.Types.{CType, Void}
+use Rattle.c_types.specs.Types.{CType, Void}
 use Rattle.clight_syntax.specs.TypedTrees.{Expr, Variable, Number, Parenthesis, Binary, Prefix, Cast, Index, Select, type_at, Cond, Truth, InParentheses, Not, Both, Either, Assignment, Test, EarlierArgument, Arguments, NoArguments, Arguments', Call, ForHead, Stmt, Empty, Block, Assign, ReadPort, WritePort, CallOf, If, IfElse, While, Do, For, Break, Continue, Return, Stmts, NoStmts, Then}
 use Rattle.clight_types.specs.Operands.{is_integer, is_scalar, is_place, is_assignable, Operand, operand}
 use Rattle.clight_types.specs.Scopes.{Scope, Signature, Object, Code, meaning_of}

@@ -1,14 +1,14 @@
 //! What may be assigned to what (ISO/IEC 9899:1999, 6.5.2.2 and 6.5.16.1).
 ghost use Rattle.std.specs.Prelude.{◌≡◌, map};
-ghost use Rattle.clight_syntax.specs.Types.{type_of};
-ghost use Rattle.clight_syntax.specs.TypedViews.{expr_of, earlier_argument_of, arguments_of};
+ghost use Rattle.c_types.specs.Types.{type_of};
+ghost use Rattle.clight_syntax.specs.Code.TypedViews.{expr_of, earlier_argument_of, arguments_of};
 ghost use Rattle.clight_types.specs.Operands.{is_assignable, is_scalar as is_scalar_lem, operand};
 ghost use Rattle.clight_types.specs.Statements.{takes as takes_lem, variable_of as variable_of_lem, values_of, values_onto, are_assignable as are_assignable_lem, result_operand};
 
 use crate::integers::integer_of;
 use crate::operands::{carried, is_integer_value, is_place, is_zero_number, target};
 use crate::types::same_type;
-use clight_syntax::Ty;
+use c_types::Ty;
 use clight_syntax::typed::{Arguments, EarlierArgument, Expr};
 
 /// Whether a value may be assigned to a place of this type (ISO/IEC 9899:1999, 6.5.16.1).

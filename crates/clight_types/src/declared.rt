@@ -1,8 +1,8 @@
 //! The types that declarations give, and their sizes (ISO/IEC 9899:1999, 6.7.2 to 6.7.5).
 ghost use Rattle.std.specs.Prelude.{◌≡◌, ◌≤◌, ◌+◌, IfOk, min};
-ghost use Rattle.clight_syntax.specs.Depth.{declared_start as declared_start_lem};
-ghost use Rattle.clight_syntax.specs.Types.{type_of, size_of};
-ghost use Rattle.clight_syntax.specs.Views.{declared_of, declaration_of};
+ghost use Rattle.clight_source.specs.Depth.{declared_start as declared_start_lem};
+ghost use Rattle.c_types.specs.Types.{type_of, size_of};
+ghost use Rattle.clight_source.specs.Code.Views.{declared_of, declaration_of};
 ghost use Rattle.clight_types.specs.Declarations.{pointers_to as pointers_to_lem, arrays_of as arrays_of_lem, declared_type as declared_type_lem, declaration_type as declaration_type_lem, is_size};
 ghost use Rattle.clight_types.specs.Held.{size_cap};
 ghost use Rattle.clight_types.specs.HeldStructs.{structs_of};
@@ -11,7 +11,7 @@ use crate::members::named_type;
 use crate::structs::Structs;
 use crate::types::capped_size;
 use cerco_base::NoMemory;
-use clight_syntax::tree::{Declaration, Declared, Length};
+use clight_source::tree::{Declaration, Declared, Length};
 use clight_syntax::{Span, Ty};
 use std::alloc::Global;
 

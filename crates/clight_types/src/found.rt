@@ -1,7 +1,7 @@
 //! A struct whose members are found by their names (ISO/IEC 9899:1999, 6.5.2.3).
 ghost use Rattle.std.specs.Prelude.{◌≡◌, IfOk, map, slice_get};
 ghost use Rattle.std.specs.Option.{option_map};
-ghost use Rattle.clight_syntax.specs.TypedViews.{member_of as member_type_of, struct_type_of};
+ghost use Rattle.clight_syntax.specs.Code.TypedViews.{member_of as member_type_of, struct_type_of};
 ghost use Rattle.clight_types.specs.FoundStructs.{names_of};
 ghost use Rattle.clight_types.specs.Scopes.{member_in};
 

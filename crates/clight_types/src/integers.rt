@@ -1,8 +1,9 @@
 //! The integer types, by size and signedness, and the conversions between them (ISO/IEC 9899:1999, 6.2.5, 6.3.1 and 6.4.4.1).
 ghost use Rattle.std.specs.Prelude.{◌≡◌, Some, None, if◌then◌else◌};
 ghost use Rattle.std.specs.Option.{option_map};
-ghost use Rattle.clight_syntax.specs.Types.{type_of};
-ghost use Rattle.clight_syntax.specs.Conversions.{promoted, common, literal_type};
+ghost use Rattle.c_types.specs.Types.{type_of};
+ghost use Rattle.c_types.specs.Conversions.{promoted, common};
+ghost use Rattle.clight_syntax.specs.LiteralTypes.{literal_type};
 ghost use Rattle.clight_types.specs.Operands.{is_integer, type_eq};
 ghost use Rattle.clight_types.specs.Held.{integer_type};
 
@@ -32,7 +33,7 @@ pub struct Integer {
 
 /// `int`
 pub fn int() -> Integer
-    ensures { integer_type result ≡ Rattle.clight_syntax.specs.Conversions.int }
+    ensures { integer_type result ≡ Rattle.c_types.specs.Conversions.int }
 {
     Integer {
         width: Width::Two,

@@ -1,8 +1,8 @@
 //! The struct that a tag means, and the members of structs (ISO/IEC 9899:1999, 6.5.2.3 and 6.7.2).
 ghost use Rattle.std.specs.Prelude.{◌≡◌, IfOk};
 ghost use Rattle.std.specs.Option.{option_map};
-ghost use Rattle.clight_syntax.specs.Types.{type_of};
-ghost use Rattle.clight_syntax.specs.TypedViews.{expr_of, member_of as member_type_of};
+ghost use Rattle.c_types.specs.Types.{type_of};
+ghost use Rattle.clight_syntax.specs.Code.TypedViews.{expr_of, member_of as member_type_of};
 ghost use Rattle.clight_types.specs.Scopes.{member_of as member_of_lem};
 ghost use Rattle.clight_types.specs.Declarations.{named_type as named_type_lem};
 ghost use Rattle.clight_types.specs.HeldJudged.{judged_of};
@@ -15,7 +15,7 @@ use crate::operands::{carried, target};
 use crate::structs::Structs;
 use crate::types::copied;
 use cerco_base::{Fault, NoMemory, TypeKind};
-use clight_syntax::tree::{MemberOperator, Name, Specifiers};
+use clight_source::tree::{MemberOperator, Name, Specifiers};
 use clight_syntax::typed::{Expr, MemberType};
 use clight_syntax::{Span, Ty};
 use std::alloc::Global;

@@ -1,10 +1,10 @@
 //! The typed nodes of expressions: one function for each form, which is given its typed parts (ISO/IEC 9899:1999, 6.5).
 ghost use Rattle.std.specs.Prelude.{◌≡◌, Ok, IfOk, not};
 ghost use Rattle.std.specs.Option.{option_map};
-ghost use Rattle.clight_syntax.specs.Types.{type_of};
+ghost use Rattle.c_types.specs.Types.{type_of};
 ghost use Rattle.clight_syntax.specs.TypedTrees.{Prefix};
-ghost use Rattle.clight_syntax.specs.Views.{expr_of as source_of};
-ghost use Rattle.clight_syntax.specs.TypedViews.{expr_of, cond_of};
+ghost use Rattle.clight_source.specs.Code.Views.{expr_of as source_of};
+ghost use Rattle.clight_syntax.specs.Code.TypedViews.{expr_of, cond_of};
 ghost use Rattle.cerco_base.specs.declared.reasons.TypeKind.TheVariants.{Operand as OperandKind};
 ghost use Rattle.clight_types.specs.Operands.{operand, is_array};
 ghost use Rattle.clight_types.specs.Held.{row_type};
@@ -22,7 +22,7 @@ use crate::rows::{Row, binary_row};
 use crate::structs::Structs;
 use crate::types::copied;
 use cerco_base::{Fault, NoMemory, TypeKind};
-use clight_syntax::tree::{self, BinaryOperator, PrefixOperator, Specifiers};
+use clight_source::tree::{self, BinaryOperator, PrefixOperator, Specifiers};
 use clight_syntax::typed::Expr;
 use clight_syntax::{Cond, Span, Ty};
 use std::alloc::Global;

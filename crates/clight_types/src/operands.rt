@@ -1,21 +1,21 @@
 //! What an expression is to the operator beside it (ISO/IEC 9899:1999, 6.3.2.1 and 6.5).
 ghost use Rattle.std.specs.Prelude.{◌≡◌, Some, None, if◌then◌else◌};
 ghost use Rattle.std.specs.Option.{option_map};
-ghost use Rattle.clight_syntax.specs.Types.{type_of};
+ghost use Rattle.c_types.specs.Types.{type_of};
 ghost use Rattle.clight_syntax.specs.TypedTrees.{type_at};
-ghost use Rattle.clight_syntax.specs.TypedViews.{expr_of};
+ghost use Rattle.clight_syntax.specs.Code.TypedViews.{expr_of};
 ghost use Rattle.clight_types.specs.Operands.{is_integer, is_pointer, is_scalar, is_value, is_array, is_zero, target_of, type_eq, operand};
 ghost use Rattle.clight_types.specs.Operands.{number_of as number_of_lem, is_place as is_place_lem, steps_over as steps_over_lem};
 ghost use Rattle.clight_types.specs.Expressions.{are_pointer_and_steps};
-ghost use Rattle.clight_syntax.specs.Conversions.{unsigned_char};
+ghost use Rattle.c_types.specs.Conversions.{unsigned_char};
 ghost use Rattle.clight_types.specs.Held.{integer_type};
 ghost use Rattle.clight_types.specs.HeldStructs.{structs_of};
 
 use crate::integers::{Integer, integer_of};
 use crate::structs::Structs;
 use crate::types::capped_size;
-use clight_syntax::Ty;
-use clight_syntax::tree::PrefixOperator;
+use c_types::Ty;
+use clight_source::tree::PrefixOperator;
 use clight_syntax::typed::Expr;
 
 /// The type that an expression carries.

@@ -1,6 +1,6 @@
 //! The types of parameters together.
 ghost use Rattle.std.specs.Prelude.{◌≡◌, map, min};
-ghost use Rattle.clight_syntax.specs.Types.{type_of};
+ghost use Rattle.c_types.specs.Types.{type_of};
 ghost use Rattle.clight_types.specs.Declarations.{bytes_of};
 ghost use Rattle.clight_types.specs.Functions.{types_eq};
 ghost use Rattle.clight_types.specs.Held.{size_cap};
@@ -9,7 +9,7 @@ ghost use Rattle.clight_types.specs.HeldStructs.{structs_of};
 use crate::declared::capped_sum;
 use crate::structs::Structs;
 use crate::types::{capped_size, same_type};
-use clight_syntax::Ty;
+use c_types::Ty;
 
 /// How many bytes values of these types have together, or 65,536 where it is more.
 pub fn parameter_bytes(structs: &Structs, types: &[Ty]) -> u32

@@ -2,8 +2,8 @@
 //! `docs/language.md` (ISO/IEC 9899:1999, 6.5).
 ghost use Rattle.std.specs.Prelude.{◌≡◌, Some, None, if◌then◌else◌};
 ghost use Rattle.std.specs.Option.{option_map};
-ghost use Rattle.clight_syntax.specs.Types.{type_of};
-ghost use Rattle.clight_syntax.specs.TypedViews.{expr_of};
+ghost use Rattle.c_types.specs.Types.{type_of};
+ghost use Rattle.clight_syntax.specs.Code.TypedViews.{expr_of};
 ghost use Rattle.clight_types.specs.Operands.{operand};
 ghost use Rattle.clight_types.specs.Expressions.{is_shift_count, are_integers, are_unsigned_chars, are_like_pointers, are_pointer_and_null};
 ghost use Rattle.clight_types.specs.TypedExpressions.{sum_type, difference_type, bits_type, product_type, shift_type, order_type, equality_type, binary_type};
@@ -17,7 +17,7 @@ use crate::operands::{
 };
 use crate::structs::Structs;
 use crate::types::same_type;
-use clight_syntax::tree::BinaryOperator;
+use clight_source::tree::BinaryOperator;
 use clight_syntax::typed::Expr;
 
 /// The type of a binary form.

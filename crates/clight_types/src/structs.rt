@@ -1,7 +1,7 @@
 //! The structs of a program, found by their tags (ISO/IEC 9899:1999, 6.7.2.3).
 ghost use Rattle.std.specs.Prelude.{◌≡◌, ◌++◌, ◌∷◌, [], IfOk, map, slice_get};
 ghost use Rattle.std.specs.Option.{option_map};
-ghost use Rattle.clight_syntax.specs.TypedViews.{struct_type_of};
+ghost use Rattle.clight_syntax.specs.Code.TypedViews.{struct_type_of};
 ghost use Rattle.clight_types.specs.Declarations.{struct_number};
 ghost use Rattle.clight_types.specs.FoundStructs.{tags_of};
 ghost use Rattle.clight_types.specs.HeldFound.{found_of};

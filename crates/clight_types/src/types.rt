@@ -1,13 +1,13 @@
 //! Types: copies, equality and sizes.
 ghost use Rattle.std.specs.Prelude.{◌≡◌, IfOk, min, ◌*◌};
-ghost use Rattle.clight_syntax.specs.Types.{type_of, size_of};
+ghost use Rattle.c_types.specs.Types.{type_of, size_of};
 ghost use Rattle.clight_types.specs.Operands.{type_eq, value_type, is_scalar, is_value, is_four_bytes};
 ghost use Rattle.clight_types.specs.Held.{size_cap};
 ghost use Rattle.clight_types.specs.HeldStructs.{structs_of};
 
 use crate::structs::Structs;
 use cerco_base::NoMemory;
-use clight_syntax::Ty;
+use c_types::Ty;
 use std::alloc::Global;
 
 /// A copy of a type.
@@ -81,7 +81,7 @@ fn capped_product(left: u32, right: u32) -> u32
 
 /// The size of a struct, or 65,536 where it is more.
 fn struct_size(structs: &Structs, number: u32) -> u32
-    ensures { result ≡ min (size_of (structs_of structs.now) (Rattle.clight_syntax.specs.Types.Struct number)) size_cap }
+    ensures { result ≡ min (size_of (structs_of structs.now) (Rattle.c_types.specs.Types.Struct number)) size_cap }
 {
     match structs.get(number) {
         Some(found) => found.ty.size.min(65_536),

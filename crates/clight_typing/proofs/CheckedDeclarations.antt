@@ -5,12 +5,12 @@ use Rattle.std.specs.Prelude.{IfOk, if◌then◌else◌, not}
 use Rattle.std.proofs.lemmas.Bool.{and_parts, and_from}
 use Rattle.cerco_base.specs.declared.reasons.TypeKind.{TypeKind}
 use Rattle.cerco_base.specs.declared.reasons.TypeKind.TheVariants as k
-use Rattle.clight_syntax.specs.declared.tree.Specifiers.{Specifiers}
-use Rattle.clight_syntax.specs.declared.tree.SignedNumber.{SignedNumber}
-use Rattle.clight_syntax.specs.declared.tree.EarlierNumber.{EarlierNumber}
-use Rattle.clight_syntax.specs.Depth.{declared_start}
-use Rattle.clight_syntax.specs.Trees as s
-use Rattle.clight_syntax.specs.Types.{CType, Void, Integer, Pointer, Array, Struct, Size, One, Two, Four, StructType, size_of}
+use Rattle.clight_source.specs.declared.tree.Specifiers.{Specifiers}
+use Rattle.clight_source.specs.declared.tree.SignedNumber.{SignedNumber}
+use Rattle.clight_source.specs.declared.tree.EarlierNumber.{EarlierNumber}
+use Rattle.clight_source.specs.Depth.{declared_start}
+use Rattle.clight_source.specs.Trees as s
+use Rattle.c_types.specs.Types.{CType, Void, Integer, Pointer, Array, Struct, Size, One, Two, Four, StructType, size_of}
 use Rattle.clight_types.specs.Operands.{is_scalar, is_four_bytes}
 use Rattle.clight_types.specs.Declarations.{named_type, declared_type, declaration_type, parameters_of, signature_of, is_size, struct_type}
 use Rattle.clight_types.specs.Functions.{is_void, is_object_words, is_result_words, is_declaration, are_members, is_struct, is_number, are_numbers, has_numbers, takes_initialiser, is_global, is_parameter, are_parameters, is_result, has_few_parameters, is_header}

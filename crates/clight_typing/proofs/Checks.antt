@@ -2,7 +2,7 @@
 use Rattle.std.proofs.Common.{◌≡◌, ℕ, Bool, true, false, ◌&&◌, ◌||◌, IsTrue, Option, Some, None, Result, Ok, Err, refl, sym, ap}
 use Rattle.std.specs.Prelude.{IfOk, IfSome, if◌then◌else◌}
 use Rattle.cerco_base.specs.declared.reasons.TypeKind.{TypeKind}
-use Rattle.clight_syntax.specs.Types.{CType}
+use Rattle.c_types.specs.Types.{CType}
 use Rattle.clight_types.specs.TypedExpressions.{Checked, TypeFault, fault, ◌>>=◌, or_fault}
 
 -- what one step gives, the next one takes

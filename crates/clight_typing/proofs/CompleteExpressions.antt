@@ -2,21 +2,22 @@
 use Rattle.std.proofs.Common.{◌≡◌, ◌∙◌, ℕ, Bool, true, false, ◌&&◌, ◌||◌, IsTrue, List, Option, Some, None, Result, Ok, Err, refl, sym, ap, subst}
 use Rattle.std.specs.Prelude.{if◌then◌else◌, not}
 use Rattle.std.proofs.lemmas.Bool.{and_parts, not-true, and_from}
-use Rattle.clight_syntax.specs.declared.span.Span.{Span}
-use Rattle.clight_syntax.specs.declared.symbol.Literal.{Literal}
-use Rattle.clight_syntax.specs.declared.tree.BinaryOperator.{BinaryOperator}
-use Rattle.clight_syntax.specs.declared.tree.BinaryOperator.TheVariants as b
-use Rattle.clight_syntax.specs.declared.tree.PrefixOperator.{PrefixOperator}
-use Rattle.clight_syntax.specs.declared.tree.PrefixOperator.TheVariants as p
-use Rattle.clight_syntax.specs.declared.tree.MemberOperator.{MemberOperator}
-use Rattle.clight_syntax.specs.declared.tree.MemberOperator.TheVariants as m
-use Rattle.clight_syntax.specs.declared.tree.Name.{Name}
-use Rattle.clight_syntax.specs.declared.tree.Specifiers.{Specifiers}
+use Rattle.clight_source.specs.declared.span.Span.{Span}
+use Rattle.clight_source.specs.declared.symbol.Literal.{Literal}
+use Rattle.clight_source.specs.declared.tree.BinaryOperator.{BinaryOperator}
+use Rattle.clight_source.specs.declared.tree.BinaryOperator.TheVariants as b
+use Rattle.clight_source.specs.declared.tree.PrefixOperator.{PrefixOperator}
+use Rattle.clight_source.specs.declared.tree.PrefixOperator.TheVariants as p
+use Rattle.clight_source.specs.declared.tree.MemberOperator.{MemberOperator}
+use Rattle.clight_source.specs.declared.tree.MemberOperator.TheVariants as m
+use Rattle.clight_source.specs.declared.tree.Name.{Name}
+use Rattle.clight_source.specs.declared.tree.Specifiers.{Specifiers}
 use Rattle.cerco_base.specs.declared.reasons.TypeKind.TheVariants as k
-use Rattle.clight_syntax.specs.Trees as s
-use Rattle.clight_syntax.specs.Types.{CType, Void, Integer, Pointer, Array, Struct, Size, One, Two, Four, Member, StructType}
+use Rattle.clight_source.specs.Trees as s
+use Rattle.c_types.specs.Types.{CType, Void, Integer, Pointer, Array, Struct, Size, One, Two, Four, Member, StructType}
 use Rattle.clight_syntax.specs.TypedTrees.{Expr, Variable, Number, Parenthesis, Binary, Prefix, Cast, Index, Select, type_at, Cond, Truth, InParentheses, Not, Both, Either}
-use Rattle.clight_syntax.specs.Conversions.{literal_type, promoted}
+use Rattle.c_types.specs.Conversions.{promoted}
+use Rattle.clight_syntax.specs.LiteralTypes.{literal_type}
 use Rattle.clight_types.specs.Operands.{is_integer, is_pointer, is_scalar, is_array, is_four_bytes, is_value, is_place, target_of, operand, steps_along}
 use Rattle.clight_types.specs.Scopes.{Scope, meaning_of, member_of}
 use Rattle.clight_types.specs.Declarations.{named_type}

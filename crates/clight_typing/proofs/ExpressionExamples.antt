@@ -3,14 +3,15 @@ use Rattle.std.proofs.Common.{◌≡◌, ℕ, ◌+◌, Bool, true, false, List, 
 use Rattle.std.specs.Prelude.{Option, Some, None, Result, Ok, Err}
 use Rattle.cerco_base.specs.declared.reasons.TypeKind.{TypeKind}
 use Rattle.cerco_base.specs.declared.reasons.TypeKind.TheVariants as k
-use Rattle.clight_syntax.specs.declared.symbol.Radix.TheVariants.{Decimal, Octal, Hexadecimal}
-use Rattle.clight_syntax.specs.declared.tree.BinaryOperator.TheVariants as b
-use Rattle.clight_syntax.specs.declared.tree.PrefixOperator.TheVariants as o
-use Rattle.clight_syntax.specs.declared.tree.Specifiers.TheVariants as t
-use Rattle.clight_syntax.specs.Trees.{Expr, Number}
+use Rattle.clight_source.specs.declared.symbol.Radix.TheVariants.{Decimal, Octal, Hexadecimal}
+use Rattle.clight_source.specs.declared.tree.BinaryOperator.TheVariants as b
+use Rattle.clight_source.specs.declared.tree.PrefixOperator.TheVariants as o
+use Rattle.clight_source.specs.declared.tree.Specifiers.TheVariants as t
+use Rattle.clight_source.specs.Trees.{Expr, Number}
 use Rattle.clight_syntax.specs.TypedTrees.{type_at, Cond}
-use Rattle.clight_syntax.specs.Types.{CType, Void, Integer, Pointer, Array, Struct, One, Two, Four, Member, StructType}
-use Rattle.clight_syntax.specs.Conversions.{literal_type, common, unsigned_char, int, unsigned_int, long, unsigned_long}
+use Rattle.c_types.specs.Types.{CType, Void, Integer, Pointer, Array, Struct, One, Two, Four, Member, StructType}
+use Rattle.c_types.specs.Conversions.{common, unsigned_char, int, unsigned_int, long, unsigned_long}
+use Rattle.clight_syntax.specs.LiteralTypes.{literal_type}
 use Rattle.clight_types.specs.Operands.{value_type}
 use Rattle.clight_types.specs.Scopes.{Scope, Named, Meaning, Meanings, Object, Code, declare, nothing, visible}
 use Rattle.clight_types.specs.TypedExpressions.{Checked, typed_value, typed_condition, ◌>>=◌}

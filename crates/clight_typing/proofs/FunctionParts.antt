@@ -1,8 +1,8 @@
 -- A function is typed in its parts: its header, its locals and statements, and what is asked of it as a whole.
 use Rattle.std.proofs.Common.{◌≡◌, ◌∙◌, ℕ, suc, Bool, List, ◌++◌, length, map, Result, Ok, Err, refl, sym, ap}
 use Rattle.cerco_base.specs.declared.reasons.TypeKind.TheVariants as k
-use Rattle.clight_syntax.specs.Trees as s
-use Rattle.clight_syntax.specs.Types.{CType}
+use Rattle.clight_source.specs.Trees as s
+use Rattle.c_types.specs.Types.{CType}
 use Rattle.clight_syntax.specs.TypedTrees.{Local, Stmts, Function, Variable'}
 use Rattle.clight_types.specs.Declarations.{declared_type, parameters_of, signature_of}
 use Rattle.clight_types.specs.Functions.{File, agrees, first_local, names_at_locals, has_few_parameters, variables_from, variables_of, parameter_own}

@@ -1,6 +1,6 @@
 -- Items of which one more is typed.
 use Rattle.std.proofs.Common.{◌≡◌, ◌∙◌, List, [], ◌∷◌, ◌++◌, Result, Ok, Err, length, refl, sym, ap, append_assoc}
-use Rattle.clight_syntax.specs.Trees as s
+use Rattle.clight_source.specs.Trees as s
 use Rattle.clight_syntax.specs.TypedTrees.{Item, StructItem, GlobalItem, PrototypeItem, FunctionItem, Function}
 use Rattle.clight_types.specs.Functions.{File}
 use Rattle.clight_typing.specs.HeldFunction.{U, Step, step, typed_item, items_with, with_end}

@@ -1,7 +1,7 @@
 -- Locals and arguments of which one more is typed.
 use Rattle.std.proofs.Common.{◌≡◌, ◌∙◌, ℕ, suc, ◌+◌, ◌<◌, List, [], ◌∷◌, ◌++◌, length, map, get_or, drop, Result, Ok, Err, refl, sym, ap, subst, append_assoc}
-use Rattle.clight_syntax.specs.Trees as s
-use Rattle.clight_syntax.specs.Types.{StructType}
+use Rattle.clight_source.specs.Trees as s
+use Rattle.c_types.specs.Types.{StructType}
 use Rattle.clight_syntax.specs.TypedTrees.{Expr, Local, EarlierArgument}
 use Rattle.clight_types.specs.Functions.{with_local}
 use Rattle.clight_types.specs.Scopes.{Scope, Meanings, visible}

@@ -1,7 +1,7 @@
 -- Parameters by their names and types.
 use Rattle.std.proofs.Common.{◌≡◌, ℕ, suc, List, [], ◌∷◌, map, refl, ap}
-use Rattle.clight_syntax.specs.Trees.{Declared}
-use Rattle.clight_syntax.specs.Types.{StructType}
+use Rattle.clight_source.specs.Trees.{Declared}
+use Rattle.c_types.specs.Types.{StructType}
 use Rattle.clight_types.specs.Declarations.{declared_type}
 use Rattle.clight_types.specs.Functions.{Own, object, parameter_own, with_parameters}
 use Rattle.clight_typing.specs.HeldFile.{with_owns}

@@ -5,20 +5,20 @@ use Rattle.cerco_base.specs.declared.reasons.TypeKind.{TypeKind}
 use Rattle.cerco_base.specs.declared.reasons.TypeKind.TheVariants as k
 use Rattle.cerco_base.specs.declared.reasons.NameKind.{NameKind}
 use Rattle.cerco_base.specs.declared.reasons.NameKind.TheVariants as n
-use Rattle.clight_syntax.specs.declared.span.Span.{Span}
-use Rattle.clight_syntax.specs.declared.symbol.Radix.TheVariants.{Decimal}
-use Rattle.clight_syntax.specs.declared.tree.BinaryOperator.TheVariants as b
-use Rattle.clight_syntax.specs.declared.tree.PrefixOperator.TheVariants as o
-use Rattle.clight_syntax.specs.declared.tree.Specifiers.{Specifiers}
-use Rattle.clight_syntax.specs.declared.tree.Specifiers.TheVariants as t
-use Rattle.clight_syntax.specs.declared.tree.SignedNumber.{SignedNumber}
-use Rattle.clight_syntax.specs.declared.tree.EarlierNumber.{EarlierNumber}
+use Rattle.clight_source.specs.declared.span.Span.{Span}
+use Rattle.clight_source.specs.declared.symbol.Radix.TheVariants.{Decimal}
+use Rattle.clight_source.specs.declared.tree.BinaryOperator.TheVariants as b
+use Rattle.clight_source.specs.declared.tree.PrefixOperator.TheVariants as o
+use Rattle.clight_source.specs.declared.tree.Specifiers.{Specifiers}
+use Rattle.clight_source.specs.declared.tree.Specifiers.TheVariants as t
+use Rattle.clight_source.specs.declared.tree.SignedNumber.{SignedNumber}
+use Rattle.clight_source.specs.declared.tree.EarlierNumber.{EarlierNumber}
 use Rattle.clight_syntax.specs.declared.typed.Home.{Home}
 use Rattle.clight_syntax.specs.declared.typed.Home.TheVariants as h
-use Rattle.clight_syntax.specs.Trees.{Expr, Stmt, Empty, Block, Assign, ReadPort, WritePort, If, While, Do, For, Break, Continue, Return, Arguments, NoArguments, Arguments', Test, Declared, Declaration, EarlierParameter, Parameters, Parameters', Header, Local, Initialiser, NoInitialiser, Single, Listed, Item, StructItem, GlobalItem, PrototypeItem, FunctionItem, Program}
-use Rattle.clight_syntax.specs.Types.{CType, Void, Integer, Pointer, Array, Struct}
+use Rattle.clight_source.specs.Trees.{Expr, Stmt, Empty, Block, Assign, ReadPort, WritePort, If, While, Do, For, Break, Continue, Return, Arguments, NoArguments, Arguments', Test, Declared, Declaration, EarlierParameter, Parameters, Parameters', Header, Local, Initialiser, NoInitialiser, Single, Listed, Item, StructItem, GlobalItem, PrototypeItem, FunctionItem, Program}
+use Rattle.c_types.specs.Types.{CType, Void, Integer, Pointer, Array, Struct}
 use Rattle.clight_syntax.specs.TypedTrees.{TypedProgram, Variable'}
-use Rattle.clight_syntax.specs.Conversions.{int, unsigned_char}
+use Rattle.c_types.specs.Conversions.{int, unsigned_char}
 use Rattle.clight_typing.specs.Sources.{program_source}
 use Rattle.clight_types.specs.TypedExpressions.{Checked}
 use Rattle.clight_typing.specs.TypedPrograms.{typed_program}

@@ -1,17 +1,17 @@
 -- Pieces of syntax trees by which the definitions are tried. A place is given by its first byte.
 use Rattle.std.proofs.Common.{◌≡◌, ℕ, ◌+◌, Bool, true, false, List, [], ◌∷◌, refl}
 use Rattle.std.specs.Prelude.{Option, Some, None, Result, Ok, Err, codes}
-use Rattle.clight_syntax.specs.declared.span.Span.{Span}
-use Rattle.clight_syntax.specs.declared.symbol.Literal.{Literal}
-use Rattle.clight_syntax.specs.declared.symbol.Radix.{Radix}
-use Rattle.clight_syntax.specs.declared.symbol.Radix.TheVariants.{Decimal, Octal, Hexadecimal}
-use Rattle.clight_syntax.specs.declared.tree.Name.{Name}
-use Rattle.clight_syntax.specs.declared.tree.BinaryOperator.{BinaryOperator}
-use Rattle.clight_syntax.specs.declared.tree.PrefixOperator.{PrefixOperator}
-use Rattle.clight_syntax.specs.declared.tree.MemberOperator.TheVariants as m
-use Rattle.clight_syntax.specs.declared.tree.Specifiers.{Specifiers}
-use Rattle.clight_syntax.specs.declared.tree.Length.{Length}
-use Rattle.clight_syntax.specs.Trees.{Expr, Variable, Number, Parenthesis, Binary, Prefix, Cast, Index, Select, Stmt, Assign, ReadPort, WritePort, CallOf, If, Stmts, NoStmts, Then, Arguments, Declared, Declaration, Member, Parameters, NoParameters, Parameters', Header, Local, NoValue, Value, Function, Item, FunctionItem, Program}
+use Rattle.clight_source.specs.declared.span.Span.{Span}
+use Rattle.clight_source.specs.declared.symbol.Literal.{Literal}
+use Rattle.clight_source.specs.declared.symbol.Radix.{Radix}
+use Rattle.clight_source.specs.declared.symbol.Radix.TheVariants.{Decimal, Octal, Hexadecimal}
+use Rattle.clight_source.specs.declared.tree.Name.{Name}
+use Rattle.clight_source.specs.declared.tree.BinaryOperator.{BinaryOperator}
+use Rattle.clight_source.specs.declared.tree.PrefixOperator.{PrefixOperator}
+use Rattle.clight_source.specs.declared.tree.MemberOperator.TheVariants as m
+use Rattle.clight_source.specs.declared.tree.Specifiers.{Specifiers}
+use Rattle.clight_source.specs.declared.tree.Length.{Length}
+use Rattle.clight_source.specs.Trees.{Expr, Variable, Number, Parenthesis, Binary, Prefix, Cast, Index, Select, Stmt, Assign, ReadPort, WritePort, CallOf, If, Stmts, NoStmts, Then, Arguments, Declared, Declaration, Member, Parameters, NoParameters, Parameters', Header, Local, NoValue, Value, Function, Item, FunctionItem, Program}
 
 abbrev pub at : ℕ → Span
 at n = record { from = n; to = n + 1 }

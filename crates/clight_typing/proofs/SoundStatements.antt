@@ -2,12 +2,12 @@
 use Rattle.std.proofs.Common.{◌≡◌, ◌∙◌, ℕ, Bool, true, false, ◌&&◌, ◌||◌, IsTrue, List, [], ◌∷◌, map, Option, Some, None, Result, Ok, Err, refl, sym, ap, subst}
 use Rattle.std.specs.Prelude.{IfOk, IfSome, if◌then◌else◌, not}
 use Rattle.std.proofs.lemmas.Bool.{and_parts}
-use Rattle.clight_syntax.specs.declared.span.Span.{Span}
-use Rattle.clight_syntax.specs.declared.tree.CallTarget.{CallTarget}
+use Rattle.clight_source.specs.declared.span.Span.{Span}
+use Rattle.clight_source.specs.declared.tree.CallTarget.{CallTarget}
 use Rattle.clight_syntax.specs.declared.typed.ResultTarget.{ResultTarget}
 use Rattle.cerco_base.specs.declared.reasons.TypeKind.TheVariants as k
-use Rattle.clight_syntax.specs.Trees as s
-use Rattle.clight_syntax.specs.Types.{CType, Void, Integer, Pointer, Array, Struct}
+use Rattle.clight_source.specs.Trees as s
+use Rattle.c_types.specs.Types.{CType, Void, Integer, Pointer, Array, Struct}
 use Rattle.clight_syntax.specs.TypedTrees.{Expr, type_at, Cond, Assignment, Test, EarlierArgument, Arguments, NoArguments, Arguments', Call, ForHead, Stmt, Empty, Block, Assign, ReadPort, WritePort, CallOf, If, IfElse, While, Do, For, Break, Continue, Return, Stmts, NoStmts, Then}
 use Rattle.clight_types.specs.Operands.{is_integer, is_assignable, is_value, operand}
 use Rattle.clight_types.specs.Scopes.{Scope, Signature, Meaning, Object, Code, meaning_of}

@@ -1,14 +1,14 @@
 -- The statements of a block are the list that its `Vec` holds; a fault in one of them is the fault of all.
 use Rattle.std.proofs.Common.{◌≡◌, ◌∙◌, ℕ, ◌+◌, ◌<◌, List, [], ◌∷◌, ◌++◌, Vec, Global, length, take, drop, get_or, Result, Ok, Err, refl, sym, ap}
 use Rattle.std.proofs.lemmas.List.{take_more}
-use Rattle.clight_syntax.specs.declared.span.Span.{Span}
-use Rattle.clight_syntax.specs.declared.tree.Stmt.{Stmt, Row_of-Stmt, end_of-Stmt, more_of-Stmt, items-the_row-Stmt, items_hidden-the_row-Stmt-0}
-use Rattle.clight_syntax.specs.declared.tree.Stmt.TheVariants.{Block, Block'}
+use Rattle.clight_source.specs.declared.span.Span.{Span}
+use Rattle.clight_source.specs.declared.tree.Stmt.{Stmt, Row_of-Stmt, end_of-Stmt, more_of-Stmt, items-the_row-Stmt, items_hidden-the_row-Stmt-0}
+use Rattle.clight_source.specs.declared.tree.Stmt.TheVariants.{Block, Block'}
 use Rattle.clight_syntax.specs.declared.typed.Stmt.{Stmt as TypedStmt}
-use Rattle.clight_syntax.specs.Trees as p
+use Rattle.clight_source.specs.Trees as p
 use Rattle.clight_syntax.specs.TypedTrees as t
-use Rattle.clight_syntax.specs.Views.{stmt_of, row_onto, stmts_onto, stmts_of}
-use Rattle.clight_syntax.specs.TypedViews as v
+use Rattle.clight_source.specs.Code.Views.{stmt_of, row_onto, stmts_onto, stmts_of}
+use Rattle.clight_syntax.specs.Code.TypedViews as v
 use Rattle.clight_syntax.proofs.TypedRows as typed
 use Rattle.clight_types.specs.Statements.{Body}
 use Rattle.clight_types.specs.TypedExpressions.{Checked, TypeFault, ◌>>=◌}

@@ -4,8 +4,8 @@ use Rattle.std.specs.Prelude.{IfOk, if◌then◌else◌, not, slice_get}
 use Rattle.std.specs.List.{flat_map}
 use Rattle.std.proofs.lemmas.Bool.{and_parts, and_from}
 use Rattle.cerco_base.specs.declared.reasons.TypeKind.TheVariants as k
-use Rattle.clight_syntax.specs.Trees as s
-use Rattle.clight_syntax.specs.Types.{CType, StructType}
+use Rattle.clight_source.specs.Trees as s
+use Rattle.c_types.specs.Types.{CType, StructType}
 use Rattle.clight_syntax.specs.TypedTrees.{Expr, Stmts, LocalInitialiser, NoValue, Value, Local, Function, Item, StructItem, GlobalItem, PrototypeItem, FunctionItem, Variable', TypedProgram}
 use Rattle.clight_types.specs.Operands.{is_scalar, is_assignable, operand}
 use Rattle.clight_types.specs.Scopes.{Scope, Meanings, visible}

@@ -1,6 +1,6 @@
 -- The laws of typing.
 use Rattle.std.proofs.Common.{◌≡◌, ◌∙◌, Result, Ok, Err, refl, sym, ap}
-use Rattle.clight_syntax.specs.Trees.{Program}
+use Rattle.clight_source.specs.Trees.{Program}
 use Rattle.clight_typing.specs.Programs.{IsWellTyped, without_layout}
 use Rattle.clight_typing.specs.Sources.{program_source}
 use Rattle.clight_types.specs.TypedExpressions.{Checked, TypeFault}

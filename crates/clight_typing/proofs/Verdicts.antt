@@ -5,7 +5,7 @@ use Rattle.cerco_base.specs.declared.reasons.Fault.{Fault}
 use Rattle.cerco_base.specs.declared.reasons.Fault.TheVariants.{Refused, OutOfMemory}
 use Rattle.cerco_base.specs.declared.reasons.Reason.{Reason}
 use Rattle.cerco_base.specs.declared.reasons.Reason.TheVariants as r
-use Rattle.clight_syntax.specs.Trees.{Program}
+use Rattle.clight_source.specs.Trees.{Program}
 use Rattle.clight_typing.specs.Laws.{Tree, IsTypingOf, HasNoTyping, IfRefused}
 use Rattle.clight_types.specs.Outcomes.{Gives, IsReason}
 use Rattle.clight_types.specs.TypedExpressions.{Checked, TypeFault}

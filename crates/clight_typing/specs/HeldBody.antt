@@ -1,6 +1,6 @@
 -- What stands around the statements of a function, as the checker holds it.
 use Rattle.std.specs.Prelude.{nat_eq}
-use Rattle.clight_syntax.specs.Types.{type_of}
+use Rattle.c_types.specs.Types.{type_of}
 use Rattle.clight_typing.specs.HeldScopes.{scope_of}
 use Rattle.clight_types.specs.Statements.{Body}
 use Rattle.clight_typing.specs.declared.statements.Body.{Body as HeldBody}

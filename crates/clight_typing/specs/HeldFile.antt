@@ -1,11 +1,11 @@
 -- What the checker holds of a file and of a function, as definitions speak of it.
 use Rattle.std.specs.Prelude.{◌≡◌, ℕ, suc, ◌++◌, List, [], ◌∷◌, length, map, nat_eq, Result, Ok, Err, Option, Some, None}
-use Rattle.clight_syntax.specs.Trees as s
-use Rattle.clight_syntax.specs.Types.{CType, StructType, type_of}
+use Rattle.clight_source.specs.Trees as s
+use Rattle.c_types.specs.Types.{CType, StructType, type_of}
 use Rattle.clight_syntax.specs.TypedTrees.{Function, Item, FunctionItem, Variable'}
 use Rattle.clight_syntax.specs.declared.typed.Home.{Home}
-use Rattle.clight_syntax.specs.TypedViews.{variable_of, item_of, function_of}
-use Rattle.clight_syntax.specs.declared.tree.Name.{Name}
+use Rattle.clight_syntax.specs.Code.TypedViews.{variable_of, item_of, function_of}
+use Rattle.clight_source.specs.declared.tree.Name.{Name}
 use Rattle.clight_syntax.specs.declared.typed.Item.{Item as HeldItem}
 use Rattle.clight_types.specs.Declarations.{declaration_type}
 use Rattle.clight_types.specs.Functions.{File, Own, object}

@@ -1,10 +1,10 @@
 -- The parts of functions and of programs, as the checker types them one after the other.
 use Rattle.std.specs.Prelude.{◌≡◌, ℕ, ◌+◌, ◌++◌, Bool, false, List, [], ◌∷◌, length, map, Result, Ok, Err, Option, Some, None}
 use Rattle.std.specs.Option.{option_map}
-use Rattle.clight_syntax.specs.Trees as s
-use Rattle.clight_syntax.specs.Types.{CType, StructType}
+use Rattle.clight_source.specs.Trees as s
+use Rattle.c_types.specs.Types.{CType, StructType}
 use Rattle.clight_syntax.specs.TypedTrees.{Local, Stmts, Function, Item, StructItem, GlobalItem, PrototypeItem, FunctionItem}
-use Rattle.clight_syntax.specs.TypedViews.{local_of, stmts_of, item_of, function_of}
+use Rattle.clight_syntax.specs.Code.TypedViews.{local_of, stmts_of, item_of, function_of}
 use Rattle.clight_syntax.specs.declared.typed.Item.{Item as HeldItem}
 use Rattle.clight_syntax.specs.declared.typed.Function.{Function as HeldFunction}
 use Rattle.cerco_base.specs.declared.reasons.TypeKind.TheVariants as k

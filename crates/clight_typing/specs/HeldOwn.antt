@@ -1,10 +1,10 @@
 -- Parameters and locals as the checker holds them.
 use Rattle.std.specs.Prelude.{List, map}
-use Rattle.clight_syntax.specs.Types.{type_of}
-use Rattle.clight_syntax.specs.Trees.{Declared, Parameters'}
-use Rattle.clight_syntax.specs.Views.{declared_of, earlier_parameter_of}
-use Rattle.clight_syntax.specs.declared.tree.Declared.{Declared as HeldDeclared}
-use Rattle.clight_syntax.specs.declared.tree.EarlierParameter.{EarlierParameter}
+use Rattle.c_types.specs.Types.{type_of}
+use Rattle.clight_source.specs.Trees.{Declared, Parameters'}
+use Rattle.clight_source.specs.Code.Views.{declared_of, earlier_parameter_of}
+use Rattle.clight_source.specs.declared.tree.Declared.{Declared as HeldDeclared}
+use Rattle.clight_source.specs.declared.tree.EarlierParameter.{EarlierParameter}
 use Rattle.clight_types.specs.Declarations.{parameters_of}
 use Rattle.clight_types.specs.Functions.{Own}
 use Rattle.clight_typing.specs.declared.headers.Own.{Own as HeldOwn}

@@ -1,7 +1,7 @@
 -- The scope that the checker holds, as definitions speak of it.
 use Rattle.std.specs.Prelude.{ℕ, Option, Some, None, map, nat_eq}
 use Rattle.std.specs.Option.{option_map}
-use Rattle.clight_syntax.specs.Types.{type_of}
+use Rattle.c_types.specs.Types.{type_of}
 use Rattle.clight_names.specs.NameFaults.{or_else}
 use Rattle.clight_types.specs.Scopes.{Signature, Meaning, Meanings, Named, Object, Code, Scope, declare, visible}
 use Rattle.clight_typing.specs.declared.scope.Signature.{Signature as HeldSignature}

@@ -3,7 +3,7 @@
 use Rattle.std.specs.Prelude.{◌≡◌, IfOk, Result, Ok, Err}
 use Rattle.cerco_base.specs.declared.reasons.Fault.{Fault}
 use Rattle.cerco_base.specs.declared.reasons.Fault.TheVariants.{Refused}
-use Rattle.clight_syntax.specs.Trees.{Program}
+use Rattle.clight_source.specs.Trees.{Program}
 use Rattle.clight_syntax.specs.TypedTrees.{TypedProgram}
 use Rattle.clight_typing.specs.Programs.{IsWellTyped, without_layout}
 use Rattle.clight_typing.specs.Sources.{program_source}

@@ -2,9 +2,9 @@
 -- said of calls that lead back to a function, of addresses and of frames.
 use Rattle.std.specs.Prelude.{◌≡◌, ℕ, zero, suc, ◌+◌, Bool, true, false, ◌&&◌, IsTrue, List, [], ◌∷◌, ◌++◌, length, map, nat_eq, codes, Option, Some, None, if◌then◌else◌}
 use Rattle.clight_syntax.specs.declared.typed.Home.TheVariants as h
-use Rattle.clight_syntax.specs.Trees.{Global, Header, Prototype}
-use Rattle.clight_syntax.specs.Trees as tree
-use Rattle.clight_syntax.specs.Types.{CType, StructType}
+use Rattle.clight_source.specs.Trees.{Global, Header, Prototype}
+use Rattle.clight_source.specs.Trees as tree
+use Rattle.c_types.specs.Types.{CType, StructType}
 use Rattle.clight_syntax.specs.TypedTrees.{Function, Item, StructItem, GlobalItem, PrototypeItem, FunctionItem, Variable', TypedProgram}
 use Rattle.clight_names.specs.Spellings.{main_name}
 use Rattle.clight_types.specs.Declarations.{declaration_type, struct_type}

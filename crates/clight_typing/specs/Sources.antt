@@ -1,11 +1,11 @@
 -- The syntax tree of a typed program: what is left where types, numbers and labels are forgotten.
 use Rattle.std.specs.Prelude.{ℕ, List, [], ◌∷◌, ◌++◌, map, Option, Some, None, slice_get}
 use Rattle.std.specs.List.{flat_map}
-use Rattle.clight_syntax.specs.declared.tree.BinaryOperator.TheVariants as b
-use Rattle.clight_syntax.specs.declared.tree.PrefixOperator.TheVariants as p
-use Rattle.clight_syntax.specs.declared.tree.CallTarget.{CallTarget}
+use Rattle.clight_source.specs.declared.tree.BinaryOperator.TheVariants as b
+use Rattle.clight_source.specs.declared.tree.PrefixOperator.TheVariants as p
+use Rattle.clight_source.specs.declared.tree.CallTarget.{CallTarget}
 use Rattle.clight_syntax.specs.declared.typed.ResultTarget.{ResultTarget}
-use Rattle.clight_syntax.specs.Trees as s
+use Rattle.clight_source.specs.Trees as s
 use Rattle.clight_syntax.specs.TypedTrees.{Expr, Variable, Number, Parenthesis, Binary, Prefix, Cast, Index, Select, Cond, Truth, InParentheses, Not, Both, Either, Assignment, Test, EarlierArgument, Arguments, NoArguments, Arguments', Call, ForHead, Stmt, Empty, Block, Assign, ReadPort, WritePort, CallOf, If, IfElse, While, Do, For, Break, Continue, Return, Stmts, NoStmts, Then, LocalInitialiser, NoValue, Value, Local, Function, Item, StructItem, GlobalItem, PrototypeItem, FunctionItem, TypedProgram}
 
 abbrev pub expr_source : Expr → s.Expr

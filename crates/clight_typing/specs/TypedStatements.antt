@@ -4,14 +4,14 @@
 use Rattle.std.specs.Prelude.{◌≡◌, ℕ, Bool, true, false, ◌&&◌, not, List, [], ◌∷◌, ◌++◌, Option, Some, None, Result, Ok, Err, if◌then◌else◌}
 use Rattle.cerco_base.specs.declared.reasons.TypeKind.{TypeKind}
 use Rattle.cerco_base.specs.declared.reasons.TypeKind.TheVariants as k
-use Rattle.clight_syntax.specs.declared.span.Span.{Span}
-use Rattle.clight_syntax.specs.declared.tree.PrefixOperator.{PrefixOperator}
-use Rattle.clight_syntax.specs.declared.tree.PrefixOperator.TheVariants.{AddressOf}
-use Rattle.clight_syntax.specs.declared.tree.Name.{Name}
-use Rattle.clight_syntax.specs.declared.tree.CallTarget.{CallTarget}
+use Rattle.clight_source.specs.declared.span.Span.{Span}
+use Rattle.clight_source.specs.declared.tree.PrefixOperator.{PrefixOperator}
+use Rattle.clight_source.specs.declared.tree.PrefixOperator.TheVariants.{AddressOf}
+use Rattle.clight_source.specs.declared.tree.Name.{Name}
+use Rattle.clight_source.specs.declared.tree.CallTarget.{CallTarget}
 use Rattle.clight_syntax.specs.declared.typed.ResultTarget.{ResultTarget}
-use Rattle.clight_syntax.specs.Trees as s
-use Rattle.clight_syntax.specs.Types.{CType, Void}
+use Rattle.clight_source.specs.Trees as s
+use Rattle.c_types.specs.Types.{CType, Void}
 use Rattle.clight_syntax.specs.TypedTrees.{Expr, Cond, Assignment, Test, EarlierArgument, Arguments, NoArguments, Arguments', Call, ForHead, Stmt, Empty, Block, Assign, ReadPort, WritePort, CallOf, If, IfElse, While, Do, For, Break, Continue, Return, Stmts, NoStmts, Then}
 use Rattle.clight_types.specs.Operands.{is_integer, is_assignable, operand}
 use Rattle.clight_types.specs.Scopes.{Scope, Signature, Meaning, Object, Code, meaning_of}

@@ -1,7 +1,7 @@
 //! The typed trees of all statements, or the first node of one that has no type (ISO/IEC 9899:1999, 6.8).
 ghost use Rattle.std.specs.Prelude.{◌≡◌};
-ghost use Rattle.clight_syntax.specs.Views.{stmt_of as source_of, stmts_of as sources_of};
-ghost use Rattle.clight_syntax.specs.TypedViews.{stmt_of, stmts_of};
+ghost use Rattle.clight_source.specs.Code.Views.{stmt_of as source_of, stmts_of as sources_of};
+ghost use Rattle.clight_syntax.specs.Code.TypedViews.{stmt_of, stmts_of};
 ghost use Rattle.clight_typing.specs.HeldBody.{body_for};
 ghost use Rattle.clight_types.specs.Outcomes.{Gives};
 ghost use Rattle.clight_types.specs.Statements.{in_loop as in_loop_lem};
@@ -9,7 +9,7 @@ ghost use Rattle.clight_typing.specs.TypedStatements.{typed_stmt as typed_stmt_l
 
 use crate::statements::Body;
 use cerco_base::Fault;
-use clight_syntax::tree;
+use clight_source::tree;
 use clight_syntax::typed::Stmt;
 
 impl Body<'_> {

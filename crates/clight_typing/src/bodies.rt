@@ -2,8 +2,8 @@
 //! (ISO/IEC 9899:1999, 6.8.6).
 ghost use Rattle.std.specs.Prelude.{◌≡◌};
 ghost use Rattle.std.specs.Option.{option_map};
-ghost use Rattle.clight_syntax.specs.Views.{expr_of as source_of};
-ghost use Rattle.clight_syntax.specs.TypedViews.{expr_of, stmt_of};
+ghost use Rattle.clight_source.specs.Code.Views.{expr_of as source_of};
+ghost use Rattle.clight_syntax.specs.Code.TypedViews.{expr_of, stmt_of};
 ghost use Rattle.clight_typing.specs.HeldBody.{body_for};
 ghost use Rattle.clight_types.specs.Outcomes.{Gives};
 ghost use Rattle.clight_types.specs.Statements.{reads_into as reads_into_lem, is_own as is_own_lem};
@@ -11,8 +11,9 @@ ghost use Rattle.clight_typing.specs.TypedStatements.{typed_reading as typed_rea
 
 use crate::statements::Body;
 use cerco_base::{Fault, TypeKind};
+use clight_source::tree;
 use clight_syntax::typed::{Expr, Stmt};
-use clight_syntax::{Span, Ty, tree};
+use clight_syntax::{Span, Ty};
 use clight_types::assignable::{is_assignable_to, variable_of};
 use clight_types::integers::integer_of;
 use clight_types::judged::refused;

@@ -1,8 +1,8 @@
 //! The typed trees of calls, or the first node of one that has no type (ISO/IEC 9899:1999, 6.5.2.2).
 ghost use Rattle.std.specs.Prelude.{◌≡◌, map};
 ghost use Rattle.std.specs.Option.{option_map};
-ghost use Rattle.clight_syntax.specs.Views.{earlier_argument_of as earlier_source_of, arguments_of as arguments_source_of, call_of as call_source_of};
-ghost use Rattle.clight_syntax.specs.TypedViews.{earlier_argument_of, arguments_of, call_of};
+ghost use Rattle.clight_source.specs.Code.Views.{earlier_argument_of as earlier_source_of, arguments_of as arguments_source_of, call_of as call_source_of};
+ghost use Rattle.clight_syntax.specs.Code.TypedViews.{earlier_argument_of, arguments_of, call_of};
 ghost use Rattle.clight_typing.specs.HeldBody.{body_for};
 ghost use Rattle.clight_typing.specs.HeldScopes.{scope_of, signature_for};
 ghost use Rattle.clight_types.specs.Outcomes.{Gives};
@@ -11,7 +11,7 @@ ghost use Rattle.clight_typing.specs.TypedStatements.{optional, typed_earlier as
 use crate::scope::{Meaning, Scope, Signature};
 use crate::statements::Body;
 use cerco_base::{Fault, TypeKind};
-use clight_syntax::tree::{self, CallTarget};
+use clight_source::tree::{self, CallTarget};
 use clight_syntax::typed::{Arguments, Call, EarlierArgument, ResultTarget};
 use clight_types::assignable::are_assignable;
 use clight_types::judged::refused;

@@ -1,8 +1,8 @@
 //! The types that declarations give, and whether they may stand (ISO/IEC 9899:1999, 6.7.2 to 6.7.5).
 ghost use Rattle.std.specs.Prelude.{◌≡◌, IfOk, map, min};
-ghost use Rattle.clight_syntax.specs.Types.{type_of};
-ghost use Rattle.clight_syntax.specs.TypedViews.{struct_type_of, member_of as member_type_of};
-ghost use Rattle.clight_syntax.specs.Views.{declaration_of, member_of, struct_of};
+ghost use Rattle.c_types.specs.Types.{type_of};
+ghost use Rattle.clight_syntax.specs.Code.TypedViews.{struct_type_of, member_of as member_type_of};
+ghost use Rattle.clight_source.specs.Code.Views.{declaration_of, member_of, struct_of};
 ghost use Rattle.clight_types.specs.Declarations.{declaration_type as declaration_type_lem, size_of_members, members_from as members_from_lem, struct_type as struct_type_lem};
 ghost use Rattle.clight_types.specs.Held.{size_cap};
 ghost use Rattle.clight_typing.specs.HeldScopes.{scope_of};
@@ -11,8 +11,8 @@ ghost use Rattle.clight_typing.specs.TypedPrograms.{checked_declaration as check
 
 use crate::scope::Scope;
 use cerco_base::{Fault, NoMemory, TypeKind};
-use clight_syntax::Ty;
-use clight_syntax::tree::{Declaration, Member, StructDefinition};
+use c_types::Ty;
+use clight_source::tree::{Declaration, Member, StructDefinition};
 use clight_syntax::typed::{MemberType, StructType};
 use clight_types::declared::{
     capped_sum, declaration_type, declared_start, has_size, is_capped_size, offset_behind,

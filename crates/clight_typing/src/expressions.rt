@@ -2,9 +2,9 @@
 //! judged before the node itself, in the order of the text.
 ghost use Rattle.std.specs.Prelude.{◌≡◌, Ok};
 ghost use Rattle.std.specs.Option.{option_map};
-ghost use Rattle.clight_syntax.specs.Types.{type_of};
-ghost use Rattle.clight_syntax.specs.Views.{expr_of as source_of};
-ghost use Rattle.clight_syntax.specs.TypedViews.{expr_of, cond_of};
+ghost use Rattle.c_types.specs.Types.{type_of};
+ghost use Rattle.clight_source.specs.Code.Views.{expr_of as source_of};
+ghost use Rattle.clight_syntax.specs.Code.TypedViews.{expr_of, cond_of};
 ghost use Rattle.clight_types.specs.Declarations.{named_type as named_type_lem};
 ghost use Rattle.clight_types.specs.HeldJudged.{judged_of};
 ghost use Rattle.clight_typing.specs.HeldScopes.{scope_of};
@@ -14,7 +14,7 @@ ghost use Rattle.clight_types.specs.TypedExpressions.{judged as judged_lem, judg
 
 use crate::scope::{Meaning, Scope};
 use cerco_base::{Fault, TypeKind};
-use clight_syntax::tree::{self, Name, PrefixOperator, Specifiers};
+use clight_source::tree::{self, Name, PrefixOperator, Specifiers};
 use clight_syntax::typed::Expr;
 use clight_syntax::{Cond, Ty};
 use clight_types::judged::{

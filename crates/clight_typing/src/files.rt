@@ -1,8 +1,8 @@
 //! What is declared before a place of a file (ISO/IEC 9899:1999, 6.9).
 ghost use Rattle.std.specs.Prelude.{◌≡◌, ◌++◌, IfOk, OnOk, length, map, nat_eq};
-ghost use Rattle.clight_syntax.specs.Types.{type_of};
-ghost use Rattle.clight_syntax.specs.TypedViews.{variable_of};
-ghost use Rattle.clight_syntax.specs.Views.{struct_of, global_of, header_of};
+ghost use Rattle.c_types.specs.Types.{type_of};
+ghost use Rattle.clight_syntax.specs.Code.TypedViews.{variable_of};
+ghost use Rattle.clight_source.specs.Code.Views.{struct_of, global_of, header_of};
 ghost use Rattle.clight_types.specs.Functions.{function_number as function_number_lem, variables_from, has_block as has_block_lem, home_of, counted as counted_lem};
 ghost use Rattle.clight_typing.specs.HeldFile.{a_variable, file_for};
 ghost use Rattle.clight_typing.specs.HeldOwn.{own_of};
@@ -15,8 +15,8 @@ use crate::headers::Own;
 use crate::locals::next_number;
 use crate::scope::{Meaning, Scope};
 use cerco_base::{Fault, NoMemory};
-use clight_syntax::Ty;
-use clight_syntax::tree::{self, Header, StructDefinition};
+use c_types::Ty;
+use clight_source::tree::{self, Header, StructDefinition};
 use clight_syntax::typed::{Home, Variable};
 use clight_types::assignable::is_scalar;
 use clight_types::places::Places;

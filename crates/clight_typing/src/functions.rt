@@ -1,9 +1,9 @@
 //! The typed trees of functions (ISO/IEC 9899:1999, 6.9.1).
 ghost use Rattle.std.specs.Prelude.{◌≡◌, ◌++◌, ◌+◌, [], IfOk, OnOk, length, map, nat_eq};
 ghost use Rattle.std.specs.Option.{option_map};
-ghost use Rattle.clight_syntax.specs.Types.{type_of};
-ghost use Rattle.clight_syntax.specs.TypedViews.{function_of, stmts_of};
-ghost use Rattle.clight_syntax.specs.Views.{declared_of, header_of, parameters_of as parameters_source_of, local_of as local_source_of, stmts_of as sources_of, function_of as function_source_of};
+ghost use Rattle.c_types.specs.Types.{type_of};
+ghost use Rattle.clight_syntax.specs.Code.TypedViews.{function_of, stmts_of};
+ghost use Rattle.clight_source.specs.Code.Views.{declared_of, header_of, parameters_of as parameters_source_of, local_of as local_source_of, stmts_of as sources_of, function_of as function_source_of};
 ghost use Rattle.clight_types.specs.Declarations.{declared_type as declared_type_lem, parameters_of, signature_of};
 ghost use Rattle.clight_types.specs.Functions.{with_parameters, parameter_own, has_few_parameters, agrees as agrees_lem};
 ghost use Rattle.clight_typing.specs.HeldFile.{file_for, source_own};
@@ -25,8 +25,8 @@ use crate::scope::Scope;
 use crate::statements::Body;
 use crate::taken::set_of;
 use cerco_base::{Fault, NoMemory, TypeKind};
-use clight_syntax::Ty;
-use clight_syntax::tree::{self, Header, Parameters};
+use c_types::Ty;
+use clight_source::tree::{self, Header, Parameters};
 use clight_syntax::typed::{Function, Local, Stmt};
 use clight_types::declared::declared_type;
 use clight_types::judged::refused;

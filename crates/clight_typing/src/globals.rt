@@ -1,8 +1,8 @@
 //! Global variables and their first values (ISO/IEC 9899:1999, 6.7.8).
 ghost use Rattle.std.specs.Prelude.{◌≡◌, IfOk, map};
-ghost use Rattle.clight_syntax.specs.Trees.{Single, Listed};
-ghost use Rattle.clight_syntax.specs.Types.{type_of};
-ghost use Rattle.clight_syntax.specs.Views.{declaration_of, initialiser_of, global_of};
+ghost use Rattle.clight_source.specs.Trees.{Single, Listed};
+ghost use Rattle.c_types.specs.Types.{type_of};
+ghost use Rattle.clight_source.specs.Code.Views.{declaration_of, initialiser_of, global_of};
 ghost use Rattle.clight_types.specs.Declarations.{declaration_type as declaration_type_lem};
 ghost use Rattle.clight_types.specs.Functions.{is_number as is_number_lem, takes_list as takes_list_lem};
 ghost use Rattle.clight_typing.specs.HeldScopes.{scope_of};
@@ -11,7 +11,7 @@ ghost use Rattle.clight_typing.specs.TypedPrograms.{checked_number as checked_nu
 
 use crate::scope::Scope;
 use cerco_base::{Fault, TypeKind};
-use clight_syntax::tree::{EarlierNumber, Global, Initialiser, SignedNumber};
+use clight_source::tree::{EarlierNumber, Global, Initialiser, SignedNumber};
 use clight_syntax::{Span, Ty};
 use clight_types::integers::{Width, integer_of, literal_integer};
 use clight_types::judged::refused;

@@ -1,8 +1,8 @@
 //! The types of functions, and whether they may be declared so (ISO/IEC 9899:1999, 6.7.5.3 and 6.9.1).
 ghost use Rattle.std.specs.Prelude.{◌≡◌, IfOk, map};
 ghost use Rattle.std.specs.Option.{option_map};
-ghost use Rattle.clight_syntax.specs.Types.{type_of};
-ghost use Rattle.clight_syntax.specs.Views.{declared_of, parameters_of as parameters_source_of, header_of};
+ghost use Rattle.c_types.specs.Types.{type_of};
+ghost use Rattle.clight_source.specs.Code.Views.{declared_of, parameters_of as parameters_source_of, header_of};
 ghost use Rattle.clight_types.specs.Declarations.{parameters_of, signature_of as signature_of_lem, declared_type as declared_type_lem};
 ghost use Rattle.clight_types.specs.Functions.{parameter_own, has_few_parameters as has_few_parameters_lem, signature_eq, agrees as agrees_lem, is_void as is_void_lem};
 ghost use Rattle.clight_typing.specs.HeldOwn.{listed, own_of};
@@ -12,8 +12,8 @@ ghost use Rattle.clight_typing.specs.TypedPrograms.{result_words as result_words
 
 use crate::scope::{Meaning, Scope, Signature};
 use cerco_base::{Fault, NoMemory, TypeKind};
-use clight_syntax::Ty;
-use clight_syntax::tree::{Declared, EarlierParameter, Header, Name, Parameters};
+use c_types::Ty;
+use clight_source::tree::{Declared, EarlierParameter, Header, Name, Parameters};
 use clight_types::assignable::is_scalar;
 use clight_types::declared::{declared_start, declared_type};
 use clight_types::judged::{refused, words_start};

@@ -1,8 +1,8 @@
 //! The parameters and locals of a function (ISO/IEC 9899:1999, 6.7.8 and 6.9.1).
 ghost use Rattle.std.specs.Prelude.{◌≡◌, ◌++◌, ◌+◌, ◌∷◌, [], IfOk, OnOk, length, map, suc};
-ghost use Rattle.clight_syntax.specs.Types.{type_of};
-ghost use Rattle.clight_syntax.specs.TypedViews.{local_of, local_initialiser_of};
-ghost use Rattle.clight_syntax.specs.Views.{local_of as local_source_of, local_initialiser_of as initialiser_source_of, parameters_of as parameters_source_of};
+ghost use Rattle.c_types.specs.Types.{type_of};
+ghost use Rattle.clight_syntax.specs.Code.TypedViews.{local_of, local_initialiser_of};
+ghost use Rattle.clight_source.specs.Code.Views.{local_of as local_source_of, local_initialiser_of as initialiser_source_of, parameters_of as parameters_source_of};
 ghost use Rattle.clight_types.specs.Declarations.{parameters_of};
 ghost use Rattle.clight_types.specs.Functions.{object, with_parameters, parameter_own};
 ghost use Rattle.clight_typing.specs.HeldFile.{an_own, source_own, with_owns};
@@ -15,8 +15,8 @@ ghost use Rattle.clight_typing.specs.TypedPrograms.{typed_first_value as typed_f
 use crate::headers::Own;
 use crate::scope::{Meaning, Scope};
 use cerco_base::{Fault, NoMemory, TypeKind};
-use clight_syntax::Ty;
-use clight_syntax::tree::{self, Name, Parameters};
+use c_types::Ty;
+use clight_source::tree::{self, Name, Parameters};
 use clight_syntax::typed::{Local, LocalInitialiser};
 use clight_types::assignable::{is_assignable_to, is_scalar};
 use clight_types::judged::refused;

@@ -1,9 +1,9 @@
 //! The typed head of a `for`, and the variable that takes a call's result (ISO/IEC 9899:1999, 6.5.2.2 and 6.8.5.3).
 ghost use Rattle.std.specs.Prelude.{◌≡◌};
 ghost use Rattle.std.specs.Option.{option_map};
-ghost use Rattle.clight_syntax.specs.Types.{type_of};
-ghost use Rattle.clight_syntax.specs.Views.{expr_of as source_of, assignment_of as assignment_source_of, for_head_of as for_source_of};
-ghost use Rattle.clight_syntax.specs.TypedViews.{assignment_of, cond_of, for_head_of};
+ghost use Rattle.c_types.specs.Types.{type_of};
+ghost use Rattle.clight_source.specs.Code.Views.{expr_of as source_of, assignment_of as assignment_source_of, for_head_of as for_source_of};
+ghost use Rattle.clight_syntax.specs.Code.TypedViews.{assignment_of, cond_of, for_head_of};
 ghost use Rattle.clight_typing.specs.HeldBody.{body_for};
 ghost use Rattle.clight_typing.specs.HeldScopes.{scope_of, signature_for};
 ghost use Rattle.clight_types.specs.Outcomes.{Gives};
@@ -14,7 +14,7 @@ ghost use Rattle.clight_types.specs.TypedExpressions.{typed_condition as typed_c
 use crate::scope::{Meaning, Scope, Signature};
 use crate::statements::Body;
 use cerco_base::{Fault, TypeKind};
-use clight_syntax::tree::{self, CallTarget};
+use clight_source::tree::{self, CallTarget};
 use clight_syntax::typed::{Assignment, ForHead, ResultTarget};
 use clight_syntax::{Cond, Ty};
 use clight_types::assignable::{is_result_assignable, is_scalar};

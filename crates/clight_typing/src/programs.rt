@@ -2,8 +2,8 @@
 ghost use Rattle.std.specs.Prelude.{◌≡◌, ◌++◌, IfOk, OnOk, map};
 ghost use Rattle.std.specs.Option.{option_map};
 ghost use Rattle.clight_types.specs.Statements.{option_list};
-ghost use Rattle.clight_syntax.specs.TypedViews.{item_of, function_of, program_of};
-ghost use Rattle.clight_syntax.specs.Views.{item_of as item_source_of, program_of as program_source_of};
+ghost use Rattle.clight_syntax.specs.Code.TypedViews.{item_of, function_of, program_of};
+ghost use Rattle.clight_source.specs.Code.Views.{item_of as item_source_of, program_of as program_source_of};
 ghost use Rattle.clight_typing.specs.HeldFile.{file_for};
 ghost use Rattle.clight_typing.specs.HeldFunction.{items_with, step_of, typed_item as typed_item_lem};
 ghost use Rattle.clight_typing.specs.Laws.{IsTypingOf, HasNoTyping, IfRefused};
@@ -15,8 +15,9 @@ use crate::files::{File, function_number};
 use crate::scope::Scope;
 use cerco_base::{CallOrder, Fault, NoMemory};
 use clight_names::main_name;
+use clight_source::tree;
 use clight_syntax::typed::{Function, Item};
-use clight_syntax::{Program, Typed, tree};
+use clight_syntax::{Program, Typed};
 use clight_types::places::Places;
 use std::alloc::Global;
 

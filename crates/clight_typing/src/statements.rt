@@ -1,8 +1,8 @@
 //! The typed trees of simple statements, or the first node of one that has no type (ISO/IEC 9899:1999, 6.5.2.2, 6.5.16 and 6.8).
 ghost use Rattle.std.specs.Prelude.{◌≡◌, map};
 ghost use Rattle.std.specs.Option.{option_map};
-ghost use Rattle.clight_syntax.specs.Views.{expr_of as source_of, assignment_of as assignment_source_of, test_of as test_source_of};
-ghost use Rattle.clight_syntax.specs.TypedViews.{expr_of, assignment_of, test_of, stmt_of};
+ghost use Rattle.clight_source.specs.Code.Views.{expr_of as source_of, assignment_of as assignment_source_of, test_of as test_source_of};
+ghost use Rattle.clight_syntax.specs.Code.TypedViews.{expr_of, assignment_of, test_of, stmt_of};
 ghost use Rattle.clight_typing.specs.HeldScopes.{scope_of};
 ghost use Rattle.clight_typing.specs.HeldBody.{body_for};
 ghost use Rattle.clight_types.specs.Outcomes.{Gives};
@@ -10,8 +10,9 @@ ghost use Rattle.clight_typing.specs.TypedStatements.{typed_assignment as typed_
 
 use crate::scope::Scope;
 use cerco_base::{Fault, TypeKind};
+use clight_source::tree;
 use clight_syntax::typed::{Assignment, Expr, Stmt, Test};
-use clight_syntax::{Span, Ty, tree};
+use clight_syntax::{Span, Ty};
 use clight_types::assignable::takes;
 use clight_types::judged::refused;
 use clight_types::operands::is_integer_value;

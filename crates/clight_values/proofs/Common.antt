@@ -1,8 +1,8 @@
 -- The common type of two types is that of their promoted types.
 use Rattle.std.proofs.Common.{◌≡◌, Bool, refl, ap, ◌∙◌}
-use Rattle.clight_syntax.specs.Types.{Size, One, Two, Four}
-use Rattle.clight_syntax.specs.Types as t
-use Rattle.clight_syntax.specs.Conversions as c
+use Rattle.c_types.specs.Types.{Size, One, Two, Four}
+use Rattle.c_types.specs.Types as t
+use Rattle.c_types.specs.Conversions as c
 use Rattle.clight_values.specs.Values.{IntegerType, integer_of, promoted, common}
 
 abbrev typed : IntegerType → t.CType

@@ -1,7 +1,7 @@
 -- The cells of a global have the bytes of its type.
 use Rattle.std.proofs.Common.{◌≡◌, ℕ, suc, List, [], ◌∷◌, ◌++◌, length, map, Some, None, refl, sym, ap, ◌∙◌}
 use Rattle.std.proofs.lemmas.List.{append-nil, length-map}
-use Rattle.clight_syntax.specs.declared.tree.SignedNumber.{SignedNumber}
+use Rattle.clight_source.specs.declared.tree.SignedNumber.{SignedNumber}
 use Rattle.clight_values.specs.declared.value.Block.{Block}
 use Rattle.clight_values.specs.declared.memory.Cell.{Cell as HeldCell}
 use Rattle.clight_values.specs.Memory.{Cell, Kinds, unset, with_block}

@@ -6,10 +6,10 @@ use Rattle.std.proofs.lemmas.Option.{slice_get-map, slice_get-get_or}
 use Rattle.std.proofs.Common.{take, min, arith, ◌^◌}
 use Rattle.std.specs.Borrow.{Bor}
 use Rattle.clight_syntax.specs.declared.typed.StructType.{StructType}
-use Rattle.clight_syntax.specs.TypedViews.{struct_type_of}
-use Rattle.clight_syntax.specs.declared.types.Ty.{Ty}
-use Rattle.clight_syntax.specs.declared.types.Ty.TheVariants as t
-use Rattle.clight_syntax.specs.Types.{CType, struct_size, size_of, Struct, type_of}
+use Rattle.clight_syntax.specs.Code.TypedViews.{struct_type_of}
+use Rattle.c_types.specs.declared.types.Ty.{Ty}
+use Rattle.c_types.specs.declared.types.Ty.TheVariants as t
+use Rattle.c_types.specs.Types.{CType, struct_size, size_of, Struct, type_of}
 use Rattle.clight_values.specs.declared.value.Value.{Value}
 use Rattle.clight_values.specs.declared.value.Value.TheVariants as v
 use Rattle.clight_values.specs.declared.value.Place.{Place}

@@ -2,8 +2,8 @@
 use Rattle.std.proofs.Common.{◌≡◌, ℕ, ◌+◌, ◌-◌, ◌*◌, ◌/◌, ◌%◌, ◌^◌, ◌<◌, ◌≤◌, sym, ap, ◌∙◌, arith}
 use Rattle.std.proofs.lemmas.Nat.{div_below, mod-mul-add, pow-add, pow_pos}
 use Rattle.std.proofs.Math.Pow.{pow_mono}
-use Rattle.clight_syntax.specs.Types.{Size, One, Two, Four}
-use Rattle.clight_syntax.specs.Conversions.{count}
+use Rattle.c_types.specs.Types.{Size, One, Two, Four}
+use Rattle.c_types.specs.Conversions.{count}
 use Rattle.clight_values.specs.Values.{IntegerType, shifted_left}
 
 -- nothing is left of a value

@@ -1,11 +1,11 @@
 -- The first values of globals (ISO/IEC 9899:1999, 6.7.8).
 use Rattle.std.specs.Prelude.{ℕ, suc, List, [], ◌∷◌, ◌++◌, map, Option, Some, None, slice_get}
-use Rattle.clight_syntax.specs.declared.tree.SignedNumber.{SignedNumber}
-use Rattle.clight_syntax.specs.declared.symbol.Literal.{Literal}
-use Rattle.clight_syntax.specs.declared.span.Span.{Span}
-use Rattle.clight_syntax.specs.declared.tree.EarlierNumber.{EarlierNumber}
-use Rattle.clight_syntax.specs.Trees.{Initialiser, NoInitialiser, Single, Listed}
-use Rattle.clight_syntax.specs.Types.{CType, Integer}
+use Rattle.clight_source.specs.declared.tree.SignedNumber.{SignedNumber}
+use Rattle.clight_source.specs.declared.symbol.Literal.{Literal}
+use Rattle.clight_source.specs.declared.span.Span.{Span}
+use Rattle.clight_source.specs.declared.tree.EarlierNumber.{EarlierNumber}
+use Rattle.clight_source.specs.Trees.{Initialiser, NoInitialiser, Single, Listed}
+use Rattle.c_types.specs.Types.{CType, Integer}
 use Rattle.clight_values.specs.declared.value.Value as w
 use Rattle.clight_values.specs.declared.value.Value.TheVariants as v
 use Rattle.clight_values.specs.Values.{converted, difference, literal_type}

@@ -4,7 +4,7 @@
 use Rattle.std.specs.Prelude.{ℕ, zero, suc, ◌+◌, ◌-◌, ◌*◌, Bool, true, false, not, ◌&&◌, ◌||◌, nat_eq, nat_lt, List, [], ◌∷◌, ◌++◌, length, take, replicate, map, Option, Some, None, Result, Ok, Err, if◌then◌else◌, slice_get, slice_set}
 use Rattle.cerco_base.specs.declared.events.FaultKind.{FaultKind}
 use Rattle.cerco_base.specs.declared.events.FaultKind.TheVariants.{Unset, Outside, Dead, Compare}
-use Rattle.clight_syntax.specs.Types.{Size, One, Two, Four, bytes, CType, Void, Integer, Pointer, Array, Struct, Member, StructType}
+use Rattle.c_types.specs.Types.{Size, One, Two, Four, bytes, CType, Void, Integer, Pointer, Array, Struct, Member, StructType}
 use Rattle.clight_syntax.specs.TypedTrees.{Variable'}
 use Rattle.clight_syntax.specs.declared.typed.Home.{Home}
 use Rattle.clight_syntax.specs.declared.typed.Home.TheVariants as home

@@ -3,9 +3,9 @@
 use Rattle.std.specs.Prelude.{ℕ, zero, suc, Bool, true, false, not, List, Option, Some, None, Result, Ok, Err}
 use Rattle.cerco_base.specs.declared.events.FaultKind.{FaultKind}
 use Rattle.cerco_base.specs.declared.events.FaultKind.TheVariants.{Outside}
-use Rattle.clight_syntax.specs.declared.tree.BinaryOperator.{BinaryOperator}
-use Rattle.clight_syntax.specs.declared.tree.BinaryOperator.TheVariants as op
-use Rattle.clight_syntax.specs.Types.{CType, Void, Integer, Pointer, Array, StructType, size_of}
+use Rattle.clight_source.specs.declared.tree.BinaryOperator.{BinaryOperator}
+use Rattle.clight_source.specs.declared.tree.BinaryOperator.TheVariants as op
+use Rattle.c_types.specs.Types.{CType, Void, Integer, Pointer, Array, StructType, size_of}
 use Rattle.clight_values.specs.declared.value.Value.{Value}
 use Rattle.clight_values.specs.declared.value.Value.TheVariants as v
 use Rattle.clight_values.specs.Values.{IntegerType, converted, promoted, difference, complement, truth, combined}

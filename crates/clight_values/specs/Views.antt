@@ -2,15 +2,15 @@
 use Rattle.std.specs.Prelude.{◌≡◌, List, map, option_map, Option, Some, None, Result, Ok, Err}
 use Rattle.std.specs.Borrow.{Bor}
 use Rattle.cerco_base.specs.declared.events.FaultKind.{FaultKind}
-use Rattle.clight_syntax.specs.Types as s
+use Rattle.c_types.specs.Types as s
 use Rattle.clight_syntax.specs.declared.typed.StructType.{StructType}
-use Rattle.clight_syntax.specs.TypedViews.{struct_type_of, variable_of}
+use Rattle.clight_syntax.specs.Code.TypedViews.{struct_type_of, variable_of}
 use Rattle.clight_syntax.specs.TypedTrees.{Variable'}
 use Rattle.clight_syntax.specs.declared.typed.Variable.{Variable}
 use Rattle.clight_values.specs.Memory as m
 use Rattle.clight_values.specs.declared.memory.Cell.{Cell}
 use Rattle.clight_values.specs.declared.memory.Memory.{Memory}
-use Rattle.clight_syntax.specs.declared.types.Ty.{Ty}
+use Rattle.c_types.specs.declared.types.Ty.{Ty}
 use Rattle.clight_values.specs.declared.integer.Size.{Size}
 use Rattle.clight_values.specs.declared.integer.Size.TheVariants.{One, Two, Four}
 use Rattle.clight_values.specs.declared.integer.IntegerType.{IntegerType}

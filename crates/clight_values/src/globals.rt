@@ -1,7 +1,7 @@
 //! The globals, as they begin.
 ghost use Rattle.std.specs.Prelude.{◌≡◌, ℕ, ◌++◌, [], OnOk, slice_get};
-ghost use Rattle.clight_syntax.specs.Types.{type_of};
-ghost use Rattle.clight_syntax.specs.Views.{initialiser_of};
+ghost use Rattle.c_types.specs.Types.{type_of};
+ghost use Rattle.clight_source.specs.Code.Views.{initialiser_of};
 ghost use Rattle.clight_values.specs.Memory as m;
 ghost use Rattle.clight_values.specs.Globals as g;
 ghost use Rattle.clight_values.specs.Views.{cells_held, kinds_held, memory_held, structs_held};
@@ -12,8 +12,8 @@ use crate::memory::{Cell, Memory, initial, push_cells};
 use crate::operators::integer_type;
 use crate::value::{Block, Value};
 use cerco_base::NoMemory;
-use clight_syntax::Ty;
-use clight_syntax::tree::{Initialiser, SignedNumber};
+use c_types::Ty;
+use clight_source::tree::{Initialiser, SignedNumber};
 use clight_syntax::typed::StructType;
 use std::alloc::Global;
 

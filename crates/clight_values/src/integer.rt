@@ -1,13 +1,13 @@
 //! The arithmetic of integers, by the bits of their types (ISO/IEC 9899:1999, 6.3.1 and 6.5.3 to 6.5.12).
 ghost use Rattle.std.specs.Prelude.{◌≡◌, ◌<◌, ◌≤◌, ◌^◌, ◌%◌, ◌/◌, false};
-ghost use Rattle.clight_syntax.specs.Types as t;
-ghost use Rattle.clight_syntax.specs.Conversions as c;
+ghost use Rattle.c_types.specs.Types as t;
+ghost use Rattle.c_types.specs.Conversions as c;
 ghost use Rattle.clight_values.specs.Values as v;
 ghost use Rattle.clight_values.specs.Views.{size_held, integer_held};
 
 use crate::value::Value;
 use cerco_base::FaultKind;
-use clight_syntax::tree::BinaryOperator;
+use clight_source::tree::BinaryOperator;
 use clight_syntax::{Literal, Radix};
 
 /// The size of an integer.

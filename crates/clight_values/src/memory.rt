@@ -1,7 +1,7 @@
 //! The memory of a run.
 ghost use Rattle.std.specs.Prelude.{◌≡◌, IsTrue, ℕ, List, ◌<◌, ◌≤◌, ◌+◌, ◌^◌, ◌++◌, IfOk, OnOk, min, map, vec_len, length, [], Ok, ◌*◌, replicate, None, option_map};
-ghost use Rattle.clight_syntax.specs.Types.{type_of, size_of};
-ghost use Rattle.clight_syntax.specs.TypedViews.{member_of};
+ghost use Rattle.c_types.specs.Types.{type_of, size_of};
+ghost use Rattle.clight_syntax.specs.Code.TypedViews.{member_of};
 ghost use Rattle.clight_values.specs.Memory as m;
 ghost use Rattle.clight_values.specs.Memory.{block_in, is_scalar, own_blocks};
 ghost use Rattle.clight_values.specs.Views.{integer_held, cell_held, cells_held, memory_held, structs_held, variables_held, kind_held, Becomes};
@@ -10,7 +10,7 @@ use crate::integer::IntegerType;
 use crate::lookup::item_at;
 use crate::value::{Block, Place, Value};
 use cerco_base::{FaultKind, NoMemory};
-use clight_syntax::Ty;
+use c_types::Ty;
 use clight_syntax::typed::{Home, MemberType, StructType, Variable};
 use std::alloc::Global;
 

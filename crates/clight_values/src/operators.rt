@@ -1,6 +1,6 @@
 //! The operators on values.
 ghost use Rattle.std.specs.Prelude.{◌≡◌, ℕ, ◌^◌, min};
-ghost use Rattle.clight_syntax.specs.Types.{type_of, size_of};
+ghost use Rattle.c_types.specs.Types.{type_of, size_of};
 ghost use Rattle.clight_values.specs.Operators as o;
 ghost use Rattle.clight_values.specs.Views.{integer_held, integers_held, memory_held, structs_held};
 
@@ -8,8 +8,8 @@ use crate::integer::{IntegerType, Size, combined, truth};
 use crate::memory::{Memory, size_of as bytes_in};
 use crate::value::Value;
 use cerco_base::FaultKind;
-use clight_syntax::Ty;
-use clight_syntax::tree::BinaryOperator;
+use c_types::Ty;
+use clight_source::tree::BinaryOperator;
 use clight_syntax::typed::StructType;
 
 /// The integer type that a type is, if it is one.

@@ -1,7 +1,7 @@
 //! The values of expressions, and the blocks in which variables live.
 
 /// A byte of a live block, or the end of the block.
-#[derive(Clone, Copy, Debug, PartialEq, Eq)]
+#[derive(Clone, Copy)]
 pub struct Place {
     /// Where the block stands among the live ones, the oldest first.
     pub slot: usize,
@@ -12,7 +12,7 @@ pub struct Place {
 }
 
 /// A value of a scalar type.
-#[derive(Clone, Copy, Debug, PartialEq, Eq)]
+#[derive(Clone, Copy)]
 pub enum Value {
     /// An integer, by the bits of its type.
     Integer(u32),
@@ -23,7 +23,7 @@ pub enum Value {
 }
 
 /// A live block: a variable, with the call that made it.
-#[derive(Clone, Copy, Debug, PartialEq, Eq)]
+#[derive(Clone, Copy)]
 pub struct Block {
     /// The number of the call.
     pub call: u64,

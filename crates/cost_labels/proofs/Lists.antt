@@ -5,7 +5,7 @@ use Rattle.cerco_base.specs.declared.events.Label.{Label}
 use Rattle.clight_syntax.specs.declared.points.Point.{Point}
 use Rattle.clight_syntax.specs.declared.typed.Stmt.{Stmt}
 use Rattle.clight_syntax.specs.TypedTrees as p
-use Rattle.clight_syntax.specs.TypedViews.{stmt_of, stmts_of}
+use Rattle.clight_syntax.specs.Code.TypedViews.{stmt_of, stmts_of}
 use Rattle.clight_syntax.specs.Labelling.{stmt_without, stmts_without, stmt_points, stmts_points}
 use Rattle.clight_syntax.proofs.TypedRows.{stmts_onto-more}
 use Rattle.cost_labels.proofs.Appending.{two_added}

@@ -1,6 +1,6 @@
 //! The labels of conditions.
 ghost use Rattle.std.specs.Prelude.{◌≡◌, ◌++◌, option_map, IfOk};
-ghost use Rattle.clight_syntax.specs.TypedViews.{cond_of, test_of, for_head_of};
+ghost use Rattle.clight_syntax.specs.Code.TypedViews.{cond_of, test_of, for_head_of};
 ghost use Rattle.clight_syntax.specs.Labelling.{cond_from as from_of_cond, cond_to as to_of_cond, operand_points, cond_without, cond_points, test_without, head_without, head_points};
 
 use crate::marker::Marker;

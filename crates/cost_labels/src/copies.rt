@@ -1,10 +1,10 @@
 //! Copies of types, expressions and calls.
 ghost use Rattle.std.specs.Prelude.{◌≡◌, map, option_map, IfOk};
-ghost use Rattle.clight_syntax.specs.Types.{type_of};
-ghost use Rattle.clight_syntax.specs.TypedViews.{expr_of, assignment_of, earlier_argument_of, arguments_of, call_of};
+ghost use Rattle.c_types.specs.Types.{type_of};
+ghost use Rattle.clight_syntax.specs.Code.TypedViews.{expr_of, assignment_of, earlier_argument_of, arguments_of, call_of};
 
 use cerco_base::NoMemory;
-use clight_syntax::Ty;
+use c_types::Ty;
 use clight_syntax::typed::{Arguments, Assignment, Call, EarlierArgument, Expr};
 use std::alloc::Global;
 

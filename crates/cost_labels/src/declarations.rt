@@ -1,11 +1,11 @@
 //! Copies of declarations and of what a program knows of its variables and structs.
 ghost use Rattle.std.specs.Prelude.{◌≡◌, map, IfOk};
-ghost use Rattle.clight_syntax.specs.Views.{declared_of, declaration_of, member_of as declared_member_of, struct_of, initialiser_of, global_of, earlier_parameter_of, parameters_of, header_of, prototype_of};
-ghost use Rattle.clight_syntax.specs.TypedViews.{local_initialiser_of, local_of, item_of, variable_of, member_of, struct_type_of};
+ghost use Rattle.clight_source.specs.Code.Views.{declared_of, declaration_of, member_of as declared_member_of, struct_of, initialiser_of, global_of, earlier_parameter_of, parameters_of, header_of, prototype_of};
+ghost use Rattle.clight_syntax.specs.Code.TypedViews.{local_initialiser_of, local_of, item_of, variable_of, member_of, struct_type_of};
 
 use crate::copies::{copy_expr, copy_type};
 use cerco_base::NoMemory;
-use clight_syntax::tree::{
+use clight_source::tree::{
     Declaration, Declared, EarlierParameter, Global as GlobalVariable, Header, Initialiser, Member,
     Parameters, Prototype, StructDefinition,
 };

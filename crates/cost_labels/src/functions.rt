@@ -1,7 +1,7 @@
 //! The labels of functions.
 ghost use Rattle.std.specs.Prelude.{◌≡◌, ◌++◌, map, IfOk};
 ghost use Rattle.std.specs.List.{flat_map};
-ghost use Rattle.clight_syntax.specs.TypedViews.{function_of};
+ghost use Rattle.clight_syntax.specs.Code.TypedViews.{function_of};
 ghost use Rattle.clight_syntax.specs.Labelling.{function_without, function_points};
 
 use crate::marker::Marker;

@@ -6,7 +6,7 @@ ghost use Rattle.cerco_base.specs.declared.events.Label.{Label};
 ghost use Rattle.clight_syntax.specs.Annotations.{AreInOrder, BeginWithStart};
 ghost use Rattle.clight_syntax.specs.TypedSpans.{AreAscending, code_spans};
 ghost use Rattle.clight_syntax.specs.TypedTrees.{TypedProgram as TypedTree};
-ghost use Rattle.clight_syntax.specs.TypedViews.{program_of, labelled_of};
+ghost use Rattle.clight_syntax.specs.Code.TypedViews.{program_of, labelled_of};
 ghost use Rattle.clight_syntax.specs.Labelling.{IsLabelled, without_labels, points_of};
 
 mod conditions;

@@ -1,6 +1,6 @@
 //! Where the parts of a program stand in the source.
 ghost use Rattle.std.specs.Prelude.{◌≡◌};
-ghost use Rattle.clight_syntax.specs.TypedViews.{expr_of, cond_of, call_of, stmt_of};
+ghost use Rattle.clight_syntax.specs.Code.TypedViews.{expr_of, cond_of, call_of, stmt_of};
 ghost use Rattle.clight_syntax.specs.Labelling.{expr_from as from_of_expr, expr_to as to_of_expr, cond_from as from_of_cond, cond_to as to_of_cond, call_from as from_of_call, stmt_from as from_of_stmt, stmt_to as to_of_stmt};
 
 use clight_syntax::typed::{Call, Cond, Expr, Stmt};

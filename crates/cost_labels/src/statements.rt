@@ -1,6 +1,6 @@
 //! The labels of statements.
 ghost use Rattle.std.specs.Prelude.{◌≡◌, ◌++◌, ◌∷◌, [], IfOk};
-ghost use Rattle.clight_syntax.specs.TypedViews.{test_of, stmt_of, stmts_of, cond_of};
+ghost use Rattle.clight_syntax.specs.Code.TypedViews.{test_of, stmt_of, stmts_of, cond_of};
 ghost use Rattle.clight_syntax.specs.Labelling.{cond_from as from_of_cond, cond_to as to_of_cond, stmt_from as from_of_stmt, stmt_to as to_of_stmt, cond_points, test_without, stmt_without, stmts_without, point, between, arm_points, only_arm_points, body_points, stmt_points, stmts_points};
 ghost use Rattle.clight_syntax.specs.declared.points.Piece.TheVariants as P;
 

@@ -1,6 +1,6 @@
 //! Copies of the parts of a program without their labels.
 ghost use Rattle.std.specs.Prelude.{◌≡◌, map, option_map, IfOk};
-ghost use Rattle.clight_syntax.specs.TypedViews.{cond_of, test_of, for_head_of, stmt_of, stmts_of, function_of};
+ghost use Rattle.clight_syntax.specs.Code.TypedViews.{cond_of, test_of, for_head_of, stmt_of, stmts_of, function_of};
 ghost use Rattle.clight_syntax.specs.Labelling.{cond_without, test_without, head_without, stmt_without, stmts_without, function_without};
 
 use crate::copies::{

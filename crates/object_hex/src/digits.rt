@@ -1,7 +1,7 @@
 //! Bytes as pairs of hex digits.
 ghost use Rattle.std.specs.Prelude.{◌≡◌, ◌*◌, ◌≤◌, ◌<◌, length, map};
 ghost use Rattle.std.specs.Char.{to_ascii_uppercase};
-ghost use Rattle.cerco_base.specs.Calls.{PutsText};
+ghost use Rattle.cerco_base.specs.Outside.IoCalls.{PutsText};
 ghost use Rattle.object_hex.specs.Digits.{pairs};
 
 use cerco_base::{IoFault, Sink, put_all};

@@ -1,6 +1,6 @@
 //! The text of an object's code.
 ghost use Rattle.std.specs.Prelude.{◌≡◌, ◌%◌, ◌^◌, ◌<◌, ◌≤◌, ◌++◌, ◌∷◌, [], length, sum};
-ghost use Rattle.cerco_base.specs.Calls.{PutsText};
+ghost use Rattle.cerco_base.specs.Outside.IoCalls.{PutsText};
 ghost use Rattle.object_hex.specs.HexText.{checksum, record_line, hex_text};
 
 use crate::digits::{MOST_BYTES, put_pairs};

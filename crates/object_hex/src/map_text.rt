@@ -1,6 +1,6 @@
 //! The text of the addresses of an object's labels.
 ghost use Rattle.std.specs.Prelude.{◌≡◌};
-ghost use Rattle.cerco_base.specs.Calls.{PutsText};
+ghost use Rattle.cerco_base.specs.Outside.IoCalls.{PutsText};
 ghost use Rattle.object_hex.specs.MapText.{label_line, map_text};
 
 use crate::digits::put_pairs;

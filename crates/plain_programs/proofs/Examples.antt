@@ -1,12 +1,12 @@
 -- Plain programs, computed.
 use Rattle.std.proofs.Common.{◌≡◌, ℕ, false, List, [], ◌∷◌, Option, Some, None, Ok, Err, codes, refl}
 use Rattle.cerco_base.specs.Events.{Ended, label}
-use Rattle.cerco_base.specs.Preservation.{Outcome, Stops}
+use Rattle.cerco_traces.specs.Preservation.{Outcome, Stops}
 use Rattle.cerco_base.specs.declared.events.FaultKind.{FaultKind}
-use Rattle.clight_syntax.specs.declared.span.Span.{Span}
-use Rattle.clight_syntax.specs.declared.symbol.Radix.TheVariants.{Decimal}
-use Rattle.clight_syntax.specs.declared.tree.Specifiers.TheVariants.{Void}
-use Rattle.clight_syntax.specs.Trees as s
+use Rattle.clight_source.specs.declared.span.Span.{Span}
+use Rattle.clight_source.specs.declared.symbol.Radix.TheVariants.{Decimal}
+use Rattle.clight_source.specs.declared.tree.Specifiers.TheVariants.{Void}
+use Rattle.clight_source.specs.Trees as s
 use Rattle.clight_syntax.proofs.LabelsDetermined.{labelled_from}
 use Rattle.clight_typing.specs.TypedPrograms.{typed_program}
 use Rattle.clight_meaning.specs.Meaning.{again, calls, source}

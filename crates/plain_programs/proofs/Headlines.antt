@@ -1,12 +1,12 @@
 -- An object that keeps to the meaning of a plain program keeps to the meaning of its labelled program.
 use Rattle.std.proofs.Common.{◌≡◌, ℕ, zero, suc, List, sym, subst}
-use Rattle.cerco_base.specs.Systems.{System}
-use Rattle.cerco_base.specs.Headline.{KeepsTo, Headline}
+use Rattle.cerco_traces.specs.Systems.{System}
+use Rattle.cerco_traces.specs.Headline.{KeepsTo, Headline}
 use Rattle.cerco_base.specs.declared.events.Event.{Event}
 use Rattle.cerco_base.specs.declared.events.FaultKind.{FaultKind}
 use Rattle.cerco_base.specs.declared.events.Label.{Label}
 use Rattle.clight_syntax.specs.Labelling.{points_of}
-use Rattle.clight_syntax.specs.Trees.{Program}
+use Rattle.clight_source.specs.Trees.{Program}
 use Rattle.clight_syntax.specs.TypedTrees.{TypedProgram}
 use Rattle.clight_meaning.specs.Meaning.{source}
 use Rattle.plain_programs.specs.PlainPrograms.{Plain, points, meaning}

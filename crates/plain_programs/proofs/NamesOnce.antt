@@ -4,7 +4,7 @@ use Rattle.std.specs.Prelude.{fold, if◌then◌else◌}
 use Rattle.std.specs.List.{list_any}
 use Rattle.std.specs.Str.{bytes_eq}
 use Rattle.std.proofs.lemmas.Slice.Eq.{bytes_eq-Decides}
-use Rattle.clight_syntax.specs.Symbols.{with_name}
+use Rattle.clight_tokens.specs.Symbols.{with_name}
 use Rattle.clight_names.specs.Spellings.{spelling_number}
 
 -- ---- tests of equality

@@ -2,9 +2,9 @@
 use Rattle.std.proofs.Common.{◌≡◌, ℕ, suc, true, List, [], ◌∷◌, Ok, refl, sym, ap, subst, ◌∙◌, nat_eq, arith}
 use Rattle.std.specs.Prelude.{if◌then◌else◌}
 use Rattle.std.proofs.lemmas.Bool.Decides.{nat_tests}
-use Rattle.clight_syntax.specs.declared.span.Span.{Span}
-use Rattle.clight_syntax.specs.declared.tree.Name.{Name}
-use Rattle.clight_syntax.specs.Trees as s
+use Rattle.clight_source.specs.declared.span.Span.{Span}
+use Rattle.clight_source.specs.declared.tree.Name.{Name}
+use Rattle.clight_source.specs.Trees as s
 use Rattle.clight_syntax.specs.TypedTrees.{Stmts, Function, FunctionItem, TypedProgram}
 use Rattle.clight_names.specs.Spellings.{main_name}
 use Rattle.clight_typing.specs.Functions.{File}

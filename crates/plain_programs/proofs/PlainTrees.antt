@@ -1,14 +1,14 @@
 -- The parts of a plain tree: one function `void main(void)` with no locals, whose statements write numbers.
 use Rattle.std.proofs.Common.{◌≡◌, ℕ, Bool, true, false, ◌&&◌, List, [], ◌∷◌, ◌++◌, Option, Some, None, refl, sym, ap, ◌∙◌, cond, codes, map, slice_index_or}
 use Rattle.std.specs.Prelude.{option_map, filter}
-use Rattle.clight_syntax.specs.declared.span.Span.{Span}
-use Rattle.clight_syntax.specs.declared.tree.Name.{Name}
-use Rattle.clight_syntax.specs.declared.tree.Specifiers.{Specifiers}
-use Rattle.clight_syntax.specs.declared.tree.Specifiers.TheVariants.{Void}
-use Rattle.clight_syntax.specs.SourceTrees.{IsSourceTree}
-use Rattle.clight_syntax.specs.Symbols.{is_name}
-use Rattle.clight_syntax.specs.Tokens.{Token}
-use Rattle.clight_syntax.specs.Trees.{Stmts, Parameters, NoParameters, Local, Function, Item, StructItem, GlobalItem, PrototypeItem, FunctionItem, Program}
+use Rattle.clight_source.specs.declared.span.Span.{Span}
+use Rattle.clight_source.specs.declared.tree.Name.{Name}
+use Rattle.clight_source.specs.declared.tree.Specifiers.{Specifiers}
+use Rattle.clight_source.specs.declared.tree.Specifiers.TheVariants.{Void}
+use Rattle.clight_tokens.specs.SourceTrees.{IsSourceTree}
+use Rattle.clight_tokens.specs.Symbols.{is_name}
+use Rattle.clight_tokens.specs.Tokens.{Token}
+use Rattle.clight_source.specs.Trees.{Stmts, Parameters, NoParameters, Local, Function, Item, StructItem, GlobalItem, PrototypeItem, FunctionItem, Program}
 use Rattle.clight_names.specs.Spellings.{main_name}
 use Rattle.plain_programs.specs.PlainPrograms.{with_value, plain_writes, is_void, has_no_parameters, is_empty, is_main, Plain, with_body, plain_items, plain_program}
 use Rattle.plain_programs.proofs.NamesOnce.{AreOnce, all_once, one_number, same}

@@ -4,12 +4,13 @@ use Rattle.std.specs.Prelude.{nat_lt, nat_le, if◌then◌else◌}
 use Rattle.std.proofs.lemmas.Bool.Decides.{nat_tests}
 use Rattle.cerco_base.specs.declared.events.Label.{Label}
 use Rattle.cerco_base.specs.declared.reasons.TypeKind.TheVariants as k
-use Rattle.clight_syntax.specs.declared.span.Span.{Span}
-use Rattle.clight_syntax.specs.declared.symbol.Radix.{Radix}
-use Rattle.clight_syntax.specs.declared.symbol.Radix.TheVariants.{Decimal, Octal, Hexadecimal}
-use Rattle.clight_syntax.specs.Trees as s
-use Rattle.clight_syntax.specs.Types.{CType, Integer, One, Two}
-use Rattle.clight_syntax.specs.Conversions.{candidates, first_with_value, int, unsigned_int, long, unsigned_long, unsigned_char}
+use Rattle.clight_source.specs.declared.span.Span.{Span}
+use Rattle.clight_source.specs.declared.symbol.Radix.{Radix}
+use Rattle.clight_source.specs.declared.symbol.Radix.TheVariants.{Decimal, Octal, Hexadecimal}
+use Rattle.clight_source.specs.Trees as s
+use Rattle.c_types.specs.Types.{CType, Integer, One, Two}
+use Rattle.c_types.specs.Conversions.{first_with_value, int, unsigned_int, long, unsigned_long, unsigned_char}
+use Rattle.clight_syntax.specs.LiteralTypes.{candidates}
 use Rattle.clight_syntax.specs.TypedTrees.{Expr, Number, Parenthesis, type_at, Stmt, WritePort, Stmts, NoStmts, Then, TypedProgram}
 use Rattle.clight_typing.specs.Operands.{is_integer, is_value, is_four_bytes, value_type, operand}
 use Rattle.clight_typing.specs.Scopes.{Scope}

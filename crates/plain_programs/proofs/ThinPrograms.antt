@@ -4,7 +4,7 @@ use Rattle.std.specs.Prelude.{slice_get}
 use Rattle.std.specs.List.{flat_map}
 use Rattle.std.proofs.lemmas.List.{map-append}
 use Rattle.cerco_base.specs.Events.{Ended}
-use Rattle.cerco_base.specs.Preservation.{Outcome, Stops, Faults, and_then}
+use Rattle.cerco_traces.specs.Preservation.{Outcome, Stops, Faults, and_then}
 use Rattle.cerco_base.specs.declared.events.Event.{Event}
 use Rattle.cerco_base.specs.declared.events.Event.TheVariants as event
 use Rattle.cerco_base.specs.declared.events.FaultKind.{FaultKind}

@@ -2,8 +2,8 @@
 -- 9899:1999, 5.1.2.3 and 6.8, with the cost labels of CerCo, deliverable 2.1) is to write its values.
 use Rattle.std.specs.Prelude.{◌≡◌, ℕ, List, Some, Ok}
 use Rattle.cerco_base.specs.declared.events.Label.{Label}
-use Rattle.clight_syntax.specs.SourceTrees.{IsSourceTree}
-use Rattle.clight_syntax.specs.Trees.{Program}
+use Rattle.clight_tokens.specs.SourceTrees.{IsSourceTree}
+use Rattle.clight_source.specs.Trees.{Program}
 use Rattle.clight_syntax.specs.TypedTrees.{TypedProgram}
 use Rattle.clight_syntax.specs.Labelling.{points_of, IsLabelled}
 use Rattle.clight_typing.specs.TypedPrograms.{typed_program}

@@ -6,12 +6,12 @@ use Rattle.cerco_base.specs.declared.events.Event.{Event}
 use Rattle.cerco_base.specs.declared.events.Event.TheVariants.{Write}
 use Rattle.cerco_base.specs.declared.events.Port.TheVariants.{P1}
 use Rattle.cerco_base.specs.Events.{label, Stopped, Ended}
-use Rattle.cerco_base.specs.Preservation.{Source, Stops}
+use Rattle.cerco_traces.specs.Preservation.{Source, Stops}
 use Rattle.clight_syntax.specs.declared.points.Point.{Point}
 use Rattle.clight_syntax.specs.declared.points.Piece.TheVariants.{Start, After}
-use Rattle.clight_syntax.specs.declared.tree.Specifiers.{Specifiers}
-use Rattle.clight_syntax.specs.declared.tree.Specifiers.TheVariants.{Void}
-use Rattle.clight_syntax.specs.Trees.{Expr, Number, Parenthesis, Stmt, WritePort, Stmts, NoStmts, Then, Declared, Parameters, NoParameters, Header, Function, Item, FunctionItem, Program}
+use Rattle.clight_source.specs.declared.tree.Specifiers.{Specifiers}
+use Rattle.clight_source.specs.declared.tree.Specifiers.TheVariants.{Void}
+use Rattle.clight_source.specs.Trees.{Expr, Number, Parenthesis, Stmt, WritePort, Stmts, NoStmts, Then, Declared, Parameters, NoParameters, Header, Function, Item, FunctionItem, Program}
 
 -- the number of at most 255 that an expression is, in any parentheses
 abbrev pub plain_value : Expr → Option ℕ

@@ -4,52 +4,52 @@ use Rattle.cerco_base.specs.declared.events.Port.{Port}
 use Rattle.cerco_base.specs.declared.events.Label.{Label}
 use Rattle.cerco_base.specs.declared.events.Event.{Event}
 use Rattle.cerco_base.specs.declared.events.Event.TheVariants as Kind
-use Rattle.cerco_base.specs.Events.{labels_in}
-use Rattle.cerco_base.specs.Headline.{ArrivesOnce}
-use Rattle.cerco_base.proofs.HeadlineProofs.{StopsOnce, arrives_once}
+use Rattle.cerco_base.specs.Events.{label_count}
+use Rattle.cerco_traces.specs.Headline.{ArrivesOnce}
+use Rattle.cerco_traces.proofs.HeadlineProofs.{StopsOnce, arrives_once}
 use Rattle.sim51.specs.declared.events.Events.{Events}
 use Rattle.mcs51_isa.specs.declared.instr.Instr.{Instr}
 use Rattle.sim51.specs.Step.{Moved, Halts, Reserved, Goes, label_at, instr_at, halts, made, step}
 use Rattle.sim51.proofs.Steps.{step_goes, step_halts}
 use Rattle.sim51.specs.Runs.{Running, object, advanced, passes_label, has_halted, events_of, cycles_of_run}
 
-pub labels_in-append : (es fs : List Event) → labels_in (es ++ fs) ≡ labels_in es + labels_in fs
-labels_in-append [] fs = omega arith
-labels_in-append (Kind.Label l ∷ es) fs = omega (arith, labels_in-append es fs)
-labels_in-append (Kind.Read port byte ∷ es) fs = labels_in-append es fs
-labels_in-append (Kind.Write port byte ∷ es) fs = labels_in-append es fs
+pub label_count-append : (es fs : List Event) → label_count (es ++ fs) ≡ label_count es + label_count fs
+label_count-append [] fs = omega arith
+label_count-append (Kind.Label l ∷ es) fs = omega (arith, label_count-append es fs)
+label_count-append (Kind.Read port byte ∷ es) fs = label_count-append es fs
+label_count-append (Kind.Write port byte ∷ es) fs = label_count-append es fs
 
 -- how many labels a step passes
 abbrev count_of : Option Label → ℕ
 count_of None = 0
 count_of (Some l) = 1
 
-labels_in-events_of : (label : Option Label) (read write : Option (Port × ℕ)) → labels_in (events_of (record { label = label; read = read; write = write })) ≡ count_of label
-labels_in-events_of None None None = refl
-labels_in-events_of None None (Some w) = refl
-labels_in-events_of None (Some r) None = refl
-labels_in-events_of None (Some r) (Some w) = refl
-labels_in-events_of (Some l) None None = refl
-labels_in-events_of (Some l) None (Some w) = refl
-labels_in-events_of (Some l) (Some r) None = refl
-labels_in-events_of (Some l) (Some r) (Some w) = refl
+label_count-events_of : (label : Option Label) (read write : Option (Port × ℕ)) → label_count (events_of (record { label = label; read = read; write = write })) ≡ count_of label
+label_count-events_of None None None = refl
+label_count-events_of None None (Some w) = refl
+label_count-events_of None (Some r) None = refl
+label_count-events_of None (Some r) (Some w) = refl
+label_count-events_of (Some l) None None = refl
+label_count-events_of (Some l) None (Some w) = refl
+label_count-events_of (Some l) (Some r) None = refl
+label_count-events_of (Some l) (Some r) (Some w) = refl
 
-labels_in-advanced : (r : Running) (e : Events) → labels_in (r.events ++ events_of e) ≡ labels_in r.events + count_of e.label
-labels_in-advanced r e = labels_in-append r.events (events_of e) ∙ ap (λ n. labels_in r.events + n) (labels_in-events_of e.label e.read e.write)
+label_count-advanced : (r : Running) (e : Events) → label_count (r.events ++ events_of e) ≡ label_count r.events + count_of e.label
+label_count-advanced r e = label_count-append r.events (events_of e) ∙ ap (λ n. label_count r.events + n) (label_count-events_of e.label e.read e.write)
 
-label_passed : (r : Running) (m : Moved) → IsTrue (passes_label m) → labels_in (advanced r m).events ≡ labels_in r.events + 1
+label_passed : (r : Running) (m : Moved) → IsTrue (passes_label m) → label_count (advanced r m).events ≡ label_count r.events + 1
 label_passed r Halts due = absurd cc
 label_passed r Reserved due = absurd cc
-label_passed r (Goes e s) due = labels_in-advanced r e ∙ ap (λ n. labels_in r.events + n) (one e.label due)
+label_passed r (Goes e s) due = label_count-advanced r e ∙ ap (λ n. label_count r.events + n) (one e.label due)
   where
     one : (label : Option Label) → IsTrue (is_some label) → count_of label ≡ 1
     one None none = absurd cc
     one (Some l) some = refl
 
-no_fewer : (r : Running) (m : Moved) → labels_in r.events ≤ labels_in (advanced r m).events
+no_fewer : (r : Running) (m : Moved) → label_count r.events ≤ label_count (advanced r m).events
 no_fewer r Halts = omega arith
 no_fewer r Reserved = omega arith
-no_fewer r (Goes e s) = let more = labels_in-advanced r e in omega arith
+no_fewer r (Goes e s) = let more = label_count-advanced r e in omega arith
 
 halt_stays : (r : Running) (m : Moved) → IsTrue (has_halted m) → advanced r m ≡ r
 halt_stays r Halts over = refl

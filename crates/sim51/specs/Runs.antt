@@ -5,7 +5,7 @@ use Rattle.cerco_base.specs.declared.events.Port.{Port}
 use Rattle.cerco_base.specs.declared.events.Event.{Event}
 use Rattle.cerco_base.specs.declared.events.Event.TheVariants.{Read, Write}
 use Rattle.cerco_base.specs.Events.{label}
-use Rattle.cerco_base.specs.Systems.{System}
+use Rattle.cerco_traces.specs.Systems.{System}
 use Rattle.sim51.specs.declared.events.Events.{Events}
 use Rattle.sim51.specs.State.{State, reset}
 use Rattle.sim51.specs.Step.{Moved, Halts, Reserved, Goes, step}

@@ -1,7 +1,7 @@
 //! The machine with its code.
 ghost use Rattle.std.specs.Prelude.{◌≡◌, ◌<◌, ◌≤◌, ◌^◌, length, slice_index, IfOk, nat_eq};
 ghost use Rattle.std.specs.List.{IsDistinct};
-ghost use Rattle.cerco_base.specs.Headline.{ArrivesOnce};
+ghost use Rattle.cerco_traces.specs.Headline.{ArrivesOnce};
 ghost use Rattle.sim51.specs.State.{reset};
 ghost use Rattle.sim51.specs.Step.{step};
 ghost use Rattle.sim51.specs.Runs.{object, cycles_of_run};

@@ -1,5 +1,5 @@
 use Rattle.std.proofs.Common.{ℕ, List, sym, ap, subst, ◌∙◌}
-use Rattle.cerco_base.specs.Calls.{PutsText}
+use Rattle.cerco_base.specs.Outside.IoCalls.{PutsText}
 use Rattle.clight_syntax.specs.Annotations.{Costs, piece_text}
 use Rattle.annotate.proofs.PieceTexts.{piece_text-start, piece_text-after, piece_text-arm_open, piece_text-then_close, piece_text-body_close, piece_text-cond_repeat, piece_text-cond_both}
 use Rattle.annotate.proofs.put_piece.Goals as goal

@@ -1,5 +1,5 @@
 use Rattle.std.proofs.Common.{[], map, string_bytes, Option, Some, None, refl, inl}
-use Rattle.cerco_base.specs.States.{FilesState}
+use Rattle.cerco_base.specs.Outside.IoStates.{FilesState}
 use Rattle.cerco_command.specs.Top.{Means}
 use Rattle.cerco_command.specs.Words.{Request, Builds, Runs, Lists, request_of}
 use Rattle.cerco_command.specs.declared.status.Status.TheVariants.{NoMemory}

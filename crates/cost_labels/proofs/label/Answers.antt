@@ -1,6 +1,6 @@
 use Rattle.std.proofs.Common.{List, sym, subst}
 use Rattle.clight_syntax.specs.declared.points.Point.{Point}
-use Rattle.clight_syntax.specs.TypedViews.{program_of, labelled_of}
+use Rattle.clight_syntax.specs.Code.TypedViews.{program_of, labelled_of}
 use Rattle.clight_syntax.specs.Annotations.{AreInOrder, BeginWithStart}
 use Rattle.clight_syntax.proofs.LabelsDetermined.{labelled_once}
 use Rattle.clight_syntax.proofs.PointsInOrder.{labelled_in_order}

@@ -1,5 +1,5 @@
 use Rattle.std.proofs.Common.{◌≡◌, map, take}
-use Rattle.cerco_base.specs.CallOrderView.{called}
+use Rattle.cerco_base.specs.Code.CallOrderView.{called}
 use Rattle.cerco_base.proofs.call_order.duplicate_entries.Given as goal
 
 -- the copies of the entries so far

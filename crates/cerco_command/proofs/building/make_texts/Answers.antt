@@ -1,5 +1,5 @@
 use Rattle.std.proofs.Common.{arith, [], ◌∷◌, refl, sym, ◌∙◌}
-use Rattle.cerco_base.specs.Memory.{sound_sink_state}
+use Rattle.cerco_base.specs.Outside.InMemory.{sound_sink_state}
 use Rattle.cerco_command.proofs.PortBounds.{code_fits}
 use Rattle.cerco_command.proofs.PlainTrees.{few, body_within}
 use Rattle.cerco_command.specs.PlainViews.{plain_of}

@@ -1,5 +1,5 @@
 use Rattle.std.proofs.Common.{◌-◌, length}
-use Rattle.cerco_base.specs.Memory.{sound_sink_state}
+use Rattle.cerco_base.specs.Outside.InMemory.{sound_sink_state}
 use Rattle.cerco_command.proofs.ListSteps.{PrintsOn}
 use Rattle.cerco_command.proofs.listing.print_listing.Given as goal
 

@@ -1,7 +1,7 @@
 use Rattle.std.proofs.Common.{◌≡◌, [], drop, sym, ap, ◌∙◌}
 use Rattle.std.specs.Prelude.{Some}
 use Rattle.std.proofs.lemmas.List.{drop_all}
-use Rattle.clight_syntax.specs.Trees.{NoStmts}
+use Rattle.clight_source.specs.Trees.{NoStmts}
 use Rattle.cerco_command.proofs.PlainWrites.{writes_onto, all_writes, no_write}
 use Rattle.cerco_command.proofs.plain_program.plain_writes.Goals as goal
 

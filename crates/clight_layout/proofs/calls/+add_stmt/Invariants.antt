@@ -1,5 +1,5 @@
 use Rattle.std.proofs.Common.{◌≡◌, ◌++◌, take}
-use Rattle.clight_syntax.specs.TypedViews.{stmts_of}
+use Rattle.clight_syntax.specs.Code.TypedViews.{stmts_of}
 use Rattle.clight_layout.specs.Calls.{stmts_calls}
 use Rattle.clight_layout.proofs.calls.+add_stmt.Given as goal
 

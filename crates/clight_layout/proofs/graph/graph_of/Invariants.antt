@@ -1,5 +1,5 @@
 use Rattle.std.proofs.Common.{◌≡◌, ◌-◌, ◌++◌, [], length, map, take, replicate}
-use Rattle.clight_syntax.specs.TypedViews.{function_of}
+use Rattle.clight_syntax.specs.Code.TypedViews.{function_of}
 use Rattle.clight_layout.specs.Calls.{body_calls}
 use Rattle.clight_layout.proofs.graph.graph_of.Given as goal
 

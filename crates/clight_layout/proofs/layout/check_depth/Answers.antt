@@ -1,6 +1,6 @@
 use Rattle.std.proofs.Common.{replicate, length, map, sym, ap, ◌∙◌}
 use Rattle.std.proofs.lemmas.List.{length-replicate}
-use Rattle.clight_syntax.specs.TypedViews.{function_of}
+use Rattle.clight_syntax.specs.Code.TypedViews.{function_of}
 use Rattle.clight_layout.specs.Calls.{callees}
 use Rattle.clight_layout.proofs.Measures.{length-callees, functions_sized, depth_is}
 use Rattle.clight_layout.proofs.layout.check_depth.Goals as goal

@@ -1,6 +1,6 @@
 use Rattle.std.proofs.Common.{◌≡◌, ◌<◌, length, map, get_or, sym, ap, ◌∙◌, arith}
 use Rattle.std.proofs.lemmas.List.{length-map}
-use Rattle.clight_syntax.specs.TypedViews.{program_of}
+use Rattle.clight_syntax.specs.Code.TypedViews.{program_of}
 use Rattle.clight_layout.specs.Calls.{callees}
 use Rattle.clight_layout.proofs.Measures.{functions_sized, length-sizes, total_is, start_is, start_at}
 use Rattle.clight_layout.proofs.layout.measure.Goals as goal

@@ -1,6 +1,6 @@
 use Rattle.std.proofs.Common.{ℕ, List, map, ap, subst, ◌∙◌}
 use Rattle.call_graph.specs.CallPaths.{IsOrderOf}
-use Rattle.clight_syntax.specs.TypedViews.{function_of}
+use Rattle.clight_syntax.specs.Code.TypedViews.{function_of}
 use Rattle.clight_layout.specs.Calls.{callees}
 use Rattle.clight_layout.specs.Layout.{HasNoCycle}
 use Rattle.clight_layout.proofs.layout.order_of.Goals as goal

@@ -1,5 +1,5 @@
 use Rattle.std.proofs.Common.{◌≡◌, ◌++◌, map, take, drop}
-use Rattle.clight_syntax.specs.TypedViews.{struct_type_of, variable_of}
+use Rattle.clight_syntax.specs.Code.TypedViews.{struct_type_of, variable_of}
 use Rattle.clight_layout.specs.Frames.{placed}
 use Rattle.clight_layout.proofs.variables.place.Given as goal
 

@@ -1,5 +1,5 @@
 use Rattle.std.proofs.Common.{◌≡◌, drop, map, []}
-use Rattle.clight_syntax.specs.TypedViews.{item_of, program_of}
+use Rattle.clight_syntax.specs.Code.TypedViews.{item_of, program_of}
 use Rattle.clight_values.specs.Memory.{with_blocks}
 use Rattle.clight_values.specs.Views.{memory_held}
 use Rattle.clight_meaning.specs.Meaning.{global_blocks}

@@ -1,6 +1,6 @@
 use Rattle.std.proofs.Common.{◌≡◌, ◌+◌, take, drop, map, length, sym, ap, ◌∙◌}
 use Rattle.std.proofs.lemmas.List.{take-map, drop-map, length-map}
-use Rattle.clight_syntax.specs.TypedViews.{variable_of, local_of}
+use Rattle.clight_syntax.specs.Code.TypedViews.{variable_of, local_of}
 use Rattle.clight_meaning.proofs.Windows.{take_parts}
 use Rattle.clight_meaning.proofs.calls.own_variables.Goals as goal
 

@@ -1,4 +1,4 @@
-use Rattle.clight_syntax.specs.Views.{earlier_parameter_of}
+use Rattle.clight_source.specs.Code.Views.{earlier_parameter_of}
 use Rattle.clight_names.specs.Occurrences.{earlier_parameter_names}
 use Rattle.clight_names.proofs.Appending.{listed_on}
 use Rattle.clight_names.proofs.declarations.add_earlier_parameters.Goals as goal

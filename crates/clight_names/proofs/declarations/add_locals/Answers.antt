@@ -1,4 +1,4 @@
-use Rattle.clight_syntax.specs.Views.{local_of}
+use Rattle.clight_source.specs.Code.Views.{local_of}
 use Rattle.clight_names.specs.Occurrences.{local_names}
 use Rattle.clight_names.proofs.Appending.{listed_on}
 use Rattle.clight_names.proofs.declarations.add_locals.Goals as goal

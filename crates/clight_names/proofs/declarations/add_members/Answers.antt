@@ -1,4 +1,4 @@
-use Rattle.clight_syntax.specs.Views.{member_of}
+use Rattle.clight_source.specs.Code.Views.{member_of}
 use Rattle.clight_names.specs.Occurrences.{member_names}
 use Rattle.clight_names.proofs.Appending.{listed_on}
 use Rattle.clight_names.proofs.declarations.add_members.Goals as goal

@@ -1,6 +1,6 @@
 use Rattle.std.proofs.Common.{◌≡◌, ◌++◌, map, take}
 use Rattle.std.specs.List.{flat_map}
-use Rattle.clight_syntax.specs.Views.{member_of}
+use Rattle.clight_source.specs.Code.Views.{member_of}
 use Rattle.clight_names.specs.Occurrences.{member_names}
 use Rattle.clight_names.proofs.declarations.add_members.Given as goal
 

@@ -1,5 +1,5 @@
 use Rattle.std.proofs.Common.{◌≡◌, map, take}
-use Rattle.clight_syntax.specs.Views.{item_of}
+use Rattle.clight_source.specs.Code.Views.{item_of}
 use Rattle.clight_names.specs.Occurrences.{names_from}
 use Rattle.clight_names.proofs.declarations.names_of.Given as goal
 

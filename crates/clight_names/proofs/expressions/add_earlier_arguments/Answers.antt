@@ -1,4 +1,4 @@
-use Rattle.clight_syntax.specs.Views.{earlier_argument_of}
+use Rattle.clight_source.specs.Code.Views.{earlier_argument_of}
 use Rattle.clight_names.specs.Occurrences.{earlier_names}
 use Rattle.clight_names.proofs.Appending.{listed_on}
 use Rattle.clight_names.proofs.expressions.add_earlier_arguments.Goals as goal

@@ -1,6 +1,6 @@
 use Rattle.std.proofs.Common.{◌≡◌, ◌++◌, map, take}
 use Rattle.std.specs.List.{flat_map}
-use Rattle.clight_syntax.specs.Views.{earlier_argument_of}
+use Rattle.clight_source.specs.Code.Views.{earlier_argument_of}
 use Rattle.clight_names.specs.Occurrences.{earlier_names}
 use Rattle.clight_names.proofs.expressions.add_earlier_arguments.Given as goal
 

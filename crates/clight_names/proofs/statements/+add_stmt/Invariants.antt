@@ -1,5 +1,5 @@
 use Rattle.std.proofs.Common.{◌≡◌, ◌++◌, take}
-use Rattle.clight_syntax.specs.Views.{stmts_of}
+use Rattle.clight_source.specs.Code.Views.{stmts_of}
 use Rattle.clight_names.specs.Occurrences.{stmts_names}
 use Rattle.clight_names.proofs.statements.+add_stmt.Given as goal
 

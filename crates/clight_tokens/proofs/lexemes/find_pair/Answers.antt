@@ -1,5 +1,5 @@
 use Rattle.std.proofs.Common.{arith, sym, ◌∙◌}
-use Rattle.clight_tokens.specs.Views.{test_of}
+use Rattle.clight_tokens.specs.Code.Views.{test_of}
 use Rattle.clight_tokens.proofs.Places.{pair_next, pair_none}
 use Rattle.clight_tokens.proofs.lexemes.find_pair.Goals as goal
 

@@ -1,6 +1,6 @@
 use Rattle.std.proofs.Common.{◌≡◌, ◌-◌, ◌≤◌, length, drop}
-use Rattle.clight_syntax.specs.Tokens.{first_pair}
-use Rattle.clight_tokens.specs.Views.{test_of}
+use Rattle.clight_tokens.specs.Tokens.{first_pair}
+use Rattle.clight_tokens.specs.Code.Views.{test_of}
 use Rattle.clight_tokens.proofs.Places.{shifted}
 use Rattle.clight_tokens.proofs.lexemes.find_pair.Given as goal
 

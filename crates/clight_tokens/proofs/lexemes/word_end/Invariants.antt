@@ -1,6 +1,6 @@
 use Rattle.std.proofs.Common.{◌≡◌, ◌+◌, ◌-◌, ◌≤◌, length, drop}
-use Rattle.clight_syntax.specs.Lexemes.{is_word_byte}
-use Rattle.clight_tokens.specs.Views.{run_length}
+use Rattle.clight_tokens.specs.Lexemes.{is_word_byte}
+use Rattle.clight_tokens.specs.Code.Views.{run_length}
 use Rattle.clight_tokens.proofs.lexemes.word_end.Given as goal
 
 abbrev pub invariant-loop-end : goal.invariant-loop-end

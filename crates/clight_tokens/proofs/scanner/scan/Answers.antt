@@ -1,5 +1,5 @@
 use Rattle.std.proofs.Common.{arith, sym, ◌∙◌, ap, append-nil, length-drop, take}
-use Rattle.clight_tokens.specs.Views.{kind_of}
+use Rattle.clight_tokens.specs.Code.Views.{kind_of}
 use Rattle.clight_tokens.proofs.Steps.{step_kept, join, step_later, step_nothing, step_wrong, end_of_text, token_is}
 use Rattle.clight_tokens.proofs.scanner.scan.Goals as goal
 

@@ -1,6 +1,6 @@
 use Rattle.std.proofs.Common.{ℕ, List, ◌-◌, ◌≤◌, ◌++◌, length, drop, map}
-use Rattle.clight_syntax.specs.Tokens.{Token, TokensFrom, FaultFrom}
-use Rattle.clight_tokens.specs.TokenViews.{token_of}
+use Rattle.clight_tokens.specs.Tokens.{Token, TokensFrom, FaultFrom}
+use Rattle.clight_tokens.specs.Code.TokenViews.{token_of}
 use Rattle.clight_tokens.proofs.scanner.scan.Given as goal
 
 abbrev pub invariant-loop-at : goal.invariant-loop-at

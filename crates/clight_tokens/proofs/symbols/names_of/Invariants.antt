@@ -1,8 +1,8 @@
 use Rattle.std.proofs.Common.{◌≡◌, ◌≤◌, drop, map}
 use Rattle.indexmap.specs.IndexSet.{index_set_len}
-use Rattle.clight_syntax.specs.Symbols.{names_of}
-use Rattle.clight_tokens.specs.TokenViews.{token_of}
-use Rattle.clight_tokens.specs.SymbolViews.{spellings}
+use Rattle.clight_tokens.specs.Symbols.{names_of}
+use Rattle.clight_tokens.specs.Code.TokenViews.{token_of}
+use Rattle.clight_tokens.specs.Code.SymbolViews.{spellings}
 use Rattle.clight_tokens.proofs.NameLists.{names_among}
 use Rattle.clight_tokens.proofs.symbols.names_of.Given as goal
 

@@ -1,5 +1,5 @@
-use Rattle.clight_syntax.specs.Symbols.{terminal_of}
-use Rattle.clight_tokens.specs.SymbolViews.{spellings}
+use Rattle.clight_tokens.specs.Symbols.{terminal_of}
+use Rattle.clight_tokens.specs.Code.SymbolViews.{spellings}
 use Rattle.clight_tokens.proofs.NameLists.{terminals-step, pushed}
 use Rattle.clight_tokens.proofs.symbols.symbols_of.Goals as goal
 

@@ -1,7 +1,7 @@
 use Rattle.std.proofs.Common.{◌≡◌, ◌++◌, drop, map}
-use Rattle.clight_syntax.specs.Symbols.{terminal_of}
-use Rattle.clight_tokens.specs.TokenViews.{token_of}
-use Rattle.clight_tokens.specs.SymbolViews.{spellings}
+use Rattle.clight_tokens.specs.Symbols.{terminal_of}
+use Rattle.clight_tokens.specs.Code.TokenViews.{token_of}
+use Rattle.clight_tokens.specs.Code.SymbolViews.{spellings}
 use Rattle.clight_tokens.proofs.symbols.symbols_of.Given as goal
 
 abbrev pub invariant-loop-token : goal.invariant-loop-token

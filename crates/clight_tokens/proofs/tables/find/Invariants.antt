@@ -1,7 +1,7 @@
 use Rattle.std.proofs.Common.{◌≡◌, drop, map}
 use Rattle.std.specs.Str.{bytes_eq}
 use Rattle.std.specs.Map.{lookup}
-use Rattle.clight_tokens.specs.SymbolViews.{entry_of}
+use Rattle.clight_tokens.specs.Code.SymbolViews.{entry_of}
 use Rattle.clight_tokens.proofs.tables.find.Given as goal
 
 abbrev pub invariant-loop-entry : goal.invariant-loop-entry

@@ -1,4 +1,4 @@
-use Rattle.clight_syntax.specs.Symbols.{keywords}
+use Rattle.clight_tokens.specs.Symbols.{keywords}
 use Rattle.clight_tokens.proofs.tables.keyword.Goals as goal
 
 pub returns : goal.returns

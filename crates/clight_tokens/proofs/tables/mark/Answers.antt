@@ -1,4 +1,4 @@
-use Rattle.clight_syntax.specs.Symbols.{marks}
+use Rattle.clight_tokens.specs.Symbols.{marks}
 use Rattle.clight_tokens.proofs.tables.mark.Goals as goal
 
 pub returns : goal.returns

@@ -1,6 +1,6 @@
 use Rattle.std.proofs.Common.{◌≡◌, map, drop}
-use Rattle.clight_syntax.specs.Types.{type_of}
-use Rattle.clight_syntax.specs.TypedViews.{expr_of, earlier_argument_of}
+use Rattle.c_types.specs.Types.{type_of}
+use Rattle.clight_syntax.specs.Code.TypedViews.{expr_of, earlier_argument_of}
 use Rattle.clight_types.specs.Statements.{values_onto, are_assignable as are_assignable_lem}
 use Rattle.clight_types.proofs.assignable.are_listed_assignable.Given as goal
 

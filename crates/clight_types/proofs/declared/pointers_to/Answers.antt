@@ -1,5 +1,5 @@
 use Rattle.std.proofs.Common.{◌≡◌, ◌∙◌, ◌+◌, drop, ap, sym, arith, rules}
-use Rattle.clight_syntax.specs.Types.{type_of, Pointer}
+use Rattle.c_types.specs.Types.{type_of, Pointer}
 use Rattle.clight_types.specs.Declarations.{pointers_to}
 use Rattle.clight_types.proofs.Stars.{star_next}
 use Rattle.clight_types.proofs.declared.pointers_to.Goals as goal

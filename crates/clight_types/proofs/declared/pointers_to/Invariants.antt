@@ -1,5 +1,5 @@
 use Rattle.std.proofs.Common.{◌≡◌, drop}
-use Rattle.clight_syntax.specs.Types.{type_of}
+use Rattle.c_types.specs.Types.{type_of}
 use Rattle.clight_types.specs.Declarations.{pointers_to as pointers_to_lem}
 use Rattle.clight_types.proofs.declared.pointers_to.Given as goal
 

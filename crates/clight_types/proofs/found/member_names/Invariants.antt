@@ -1,5 +1,5 @@
 use Rattle.std.proofs.Common.{◌≡◌, ◌++◌, map, drop}
-use Rattle.clight_syntax.specs.TypedViews.{member_of as member_type_of}
+use Rattle.clight_syntax.specs.Code.TypedViews.{member_of as member_type_of}
 use Rattle.clight_types.specs.FoundStructs.{names_of}
 use Rattle.clight_types.proofs.found.member_names.Given as goal
 

@@ -1,6 +1,6 @@
 use Rattle.std.proofs.Common.{◌∙◌, ap, map}
-use Rattle.clight_syntax.specs.Types.{type_of}
-use Rattle.clight_syntax.specs.TypedViews.{expr_of}
+use Rattle.c_types.specs.Types.{type_of}
+use Rattle.clight_syntax.specs.Code.TypedViews.{expr_of}
 use Rattle.clight_types.specs.Operands.{operand, steps_over}
 use Rattle.clight_types.specs.HeldStructs.{structs_of}
 use Rattle.clight_types.proofs.Sizes.{steps_to}

@@ -1,5 +1,5 @@
 use Rattle.std.proofs.Common.{◌≡◌, map, drop}
-use Rattle.clight_syntax.specs.Types.{type_of}
+use Rattle.c_types.specs.Types.{type_of}
 use Rattle.clight_types.specs.Functions.{types_eq}
 use Rattle.clight_types.proofs.parameters.are_same_types.Given as goal
 

@@ -1,6 +1,6 @@
 use Rattle.std.proofs.Common.{◌≡◌, ◌+◌, ◌≤◌, map, drop}
 use Rattle.std.specs.Prelude.{min}
-use Rattle.clight_syntax.specs.Types.{type_of}
+use Rattle.c_types.specs.Types.{type_of}
 use Rattle.clight_types.specs.Declarations.{bytes_of}
 use Rattle.clight_types.specs.Held.{size_cap}
 use Rattle.clight_types.specs.HeldStructs.{structs_of}

@@ -3,7 +3,7 @@ use Rattle.std.proofs.lemmas.List.{map-append, length_push}
 use Rattle.std.proofs.lemmas.Iterator.Consumers.{YieldsList-turn}
 use Rattle.std.proofs.lemmas.Iterator.Adapters.{YieldsList-from_vec}
 use Rattle.clight_syntax.specs.TypedTrees.{Variable'}
-use Rattle.clight_syntax.specs.TypedViews.{variable_of}
+use Rattle.clight_syntax.specs.Code.TypedViews.{variable_of}
 use Rattle.clight_types.specs.Functions.{variables_from, own_variable, has_block, counted, home_of}
 use Rattle.clight_types.specs.Operands.{is_scalar}
 use Rattle.clight_typing.specs.HeldFile.{a_variable}

@@ -1,5 +1,5 @@
 use Rattle.std.proofs.Common.{◌≡◌, map}
-use Rattle.clight_syntax.specs.Types.{type_of}
+use Rattle.c_types.specs.Types.{type_of}
 use Rattle.clight_typing.specs.HeldOwn.{own_of}
 use Rattle.clight_typing.proofs.headers.types_of.Given as goal
 

@@ -1,5 +1,5 @@
 use Rattle.std.proofs.Common.{◌≡◌, ◌++◌, map, drop}
-use Rattle.clight_syntax.specs.Views.{item_of as item_source_of}
+use Rattle.clight_source.specs.Code.Views.{item_of as item_source_of}
 use Rattle.clight_typing.specs.Programs.{definitions as definitions_lem}
 use Rattle.clight_typing.proofs.programs.definitions.Given as goal
 

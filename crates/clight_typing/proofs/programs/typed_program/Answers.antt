@@ -1,5 +1,5 @@
-use Rattle.clight_syntax.specs.TypedViews.{program_of}
-use Rattle.clight_syntax.specs.Views.{program_of as source_of}
+use Rattle.clight_syntax.specs.Code.TypedViews.{program_of}
+use Rattle.clight_source.specs.Code.Views.{program_of as source_of}
 use Rattle.clight_typing.proofs.Verdicts.{is_typing, no_typing}
 use Rattle.clight_typing.proofs.programs.typed_program.Goals as goal
 

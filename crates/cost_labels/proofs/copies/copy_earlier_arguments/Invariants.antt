@@ -1,5 +1,5 @@
 use Rattle.std.proofs.Common.{◌≡◌, map, take}
-use Rattle.clight_syntax.specs.TypedViews.{earlier_argument_of}
+use Rattle.clight_syntax.specs.Code.TypedViews.{earlier_argument_of}
 use Rattle.cost_labels.proofs.copies.copy_earlier_arguments.Given as goal
 
 abbrev pub invariant-loop-x : goal.invariant-loop-x

@@ -1,5 +1,5 @@
 use Rattle.std.proofs.Common.{◌≡◌, map, take}
-use Rattle.clight_syntax.specs.Views.{member_of}
+use Rattle.clight_source.specs.Code.Views.{member_of}
 use Rattle.cost_labels.proofs.declarations.copy_members.Given as goal
 
 abbrev pub invariant-loop-x : goal.invariant-loop-x

@@ -1,6 +1,6 @@
 use Rattle.std.proofs.Common.{◌≡◌, ◌++◌, map}
 use Rattle.std.specs.List.{flat_map}
-use Rattle.clight_syntax.specs.TypedViews.{function_of}
+use Rattle.clight_syntax.specs.Code.TypedViews.{function_of}
 use Rattle.clight_syntax.specs.Labelling.{function_without, function_points}
 use Rattle.cost_labels.proofs.functions.label_functions.Given as goal
 

@@ -1,5 +1,5 @@
 use Rattle.std.proofs.Common.{◌≡◌, ◌++◌}
-use Rattle.clight_syntax.specs.TypedViews.{stmts_of}
+use Rattle.clight_syntax.specs.Code.TypedViews.{stmts_of}
 use Rattle.clight_syntax.specs.Labelling.{stmts_without, stmts_points}
 use Rattle.cost_labels.proofs.statements.+label_stmt.Given as goal
 

@@ -1,6 +1,6 @@
 use Rattle.std.proofs.Common.{sym, ap, ◌∙◌}
 use Rattle.clight_syntax.specs.TypedTrees as p
-use Rattle.clight_syntax.specs.TypedViews.{stmt_of, stmts_of}
+use Rattle.clight_syntax.specs.Code.TypedViews.{stmt_of, stmts_of}
 use Rattle.clight_syntax.specs.Labelling.{stmt_without, stmts_without}
 use Rattle.clight_syntax.proofs.TypedRows.{block_is}
 use Rattle.cost_labels.proofs.Lists.{alone_on}

@@ -1,5 +1,5 @@
 use Rattle.std.proofs.Common.{◌≡◌, take}
-use Rattle.clight_syntax.specs.TypedViews.{stmts_of}
+use Rattle.clight_syntax.specs.Code.TypedViews.{stmts_of}
 use Rattle.clight_syntax.specs.Labelling.{stmts_without}
 use Rattle.cost_labels.proofs.unlabelled.+stmt_alone.Given as goal
 

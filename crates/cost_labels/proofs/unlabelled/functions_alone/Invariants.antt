@@ -1,5 +1,5 @@
 use Rattle.std.proofs.Common.{◌≡◌, map, take}
-use Rattle.clight_syntax.specs.TypedViews.{function_of}
+use Rattle.clight_syntax.specs.Code.TypedViews.{function_of}
 use Rattle.clight_syntax.specs.Labelling.{function_without}
 use Rattle.cost_labels.proofs.unlabelled.functions_alone.Given as goal
 

@@ -2,7 +2,7 @@ use Rattle.std.proofs.Common.{◌+◌, ◌++◌, ◌∷◌, [], List, Ok, drop, 
 use Rattle.std.proofs.lemmas.List.{append-nil, drop_all}
 use Rattle.clight_syntax.specs.declared.typed.EarlierArgument.{EarlierArgument}
 use Rattle.clight_syntax.specs.TypedTrees as t
-use Rattle.clight_syntax.specs.TypedViews.{earlier_argument_of, expr_of, program_of}
+use Rattle.clight_syntax.specs.Code.TypedViews.{earlier_argument_of, expr_of, program_of}
 use Rattle.clight_values.specs.declared.value.Value.{Value}
 use Rattle.clight_meaning.specs.Meaning.{argument_values}
 use Rattle.clight_meaning.specs.Views.{state_held}

@@ -1,6 +1,6 @@
 use Rattle.std.proofs.Common.{◌≡◌, ◌∙◌, ap, map}
 use Rattle.std.specs.Prelude.{slice_get}
-use Rattle.clight_syntax.specs.TypedViews.{member_of as member_type_of, struct_type_of}
+use Rattle.clight_syntax.specs.Code.TypedViews.{member_of as member_type_of, struct_type_of}
 use Rattle.clight_types.specs.FoundStructs.{names_of}
 use Rattle.clight_types.specs.Places.{place_among}
 use Rattle.clight_types.proofs.StructLemmas.{member_at}

@@ -1,5 +1,5 @@
 use Rattle.std.proofs.Common.{◌≡◌, map}
-use Rattle.clight_syntax.specs.TypedViews.{struct_type_of}
+use Rattle.clight_syntax.specs.Code.TypedViews.{struct_type_of}
 use Rattle.clight_types.specs.HeldFound.{found_of}
 use Rattle.clight_types.proofs.structs.Structs.into_types.Given as goal
 

@@ -1,8 +1,8 @@
 use Rattle.std.proofs.Common.{◌≡◌, ◌∙◌, ℕ, suc, ◌++◌, List, map, nat_eq, Result, Ok, Err, refl, ap, sym, rules}
-use Rattle.clight_syntax.specs.Types.{CType, StructType, type_of}
+use Rattle.c_types.specs.Types.{CType, StructType, type_of}
 use Rattle.clight_syntax.specs.TypedTrees.{Variable'}
-use Rattle.clight_syntax.specs.TypedViews.{function_of, variable_of}
-use Rattle.clight_syntax.specs.Views.{function_of as source_of}
+use Rattle.clight_syntax.specs.Code.TypedViews.{function_of, variable_of}
+use Rattle.clight_source.specs.Code.Views.{function_of as source_of}
 use Rattle.clight_types.specs.Functions.{File, variables_from}
 use Rattle.clight_types.specs.Scopes.{Meanings}
 use Rattle.clight_typing.specs.HeldFile.{file_for}
@@ -14,7 +14,7 @@ use Rattle.clight_typing.specs.HeldScopes.{file_names}
 use Rattle.clight_types.specs.TypedExpressions.{TypeFault, Checked, ◌>>=◌}
 use Rattle.clight_typing.proofs.Gives.{faulted}
 use Rattle.clight_typing.proofs.FunctionParts.{same_parts, up_to_parts, up_to_few, up_to_same, function_done, made, own_parts, after_parts, parts_in}
-use Rattle.clight_syntax.specs.Views.{stmts_of}
+use Rattle.clight_source.specs.Code.Views.{stmts_of}
 use Rattle.clight_typing.specs.declared.functions.Opening.{Opening}
 use Rattle.clight_typing.specs.TypedPrograms.{checked_types}
 use Rattle.indexmap.specs.IndexSet.{contains}

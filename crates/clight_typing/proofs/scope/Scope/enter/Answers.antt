@@ -1,5 +1,5 @@
 use Rattle.std.proofs.Common.{◌≡◌, ◌∙◌, List, map, ap}
-use Rattle.clight_syntax.specs.Views.{parameters_of as source_of}
+use Rattle.clight_source.specs.Code.Views.{parameters_of as source_of}
 use Rattle.clight_types.specs.Declarations.{parameters_of}
 use Rattle.clight_types.specs.Functions.{parameter_own}
 use Rattle.clight_typing.specs.HeldFile.{with_owns}

@@ -1,6 +1,6 @@
 use Rattle.std.proofs.Common.{◌≡◌, ◌+◌, ◌≤◌, map, drop}
 use Rattle.std.specs.Prelude.{min}
-use Rattle.clight_syntax.specs.Views.{member_of}
+use Rattle.clight_source.specs.Code.Views.{member_of}
 use Rattle.clight_types.specs.Declarations.{size_of_members}
 use Rattle.clight_types.specs.Held.{size_cap}
 use Rattle.clight_typing.specs.HeldScopes.{scope_of}

@@ -1,6 +1,6 @@
 use Rattle.std.proofs.Common.{◌∙◌, List, map, ap}
-use Rattle.clight_syntax.specs.Types.{CType, type_of}
-use Rattle.clight_syntax.specs.Views.{header_of}
+use Rattle.c_types.specs.Types.{CType, type_of}
+use Rattle.clight_source.specs.Code.Views.{header_of}
 use Rattle.clight_types.specs.Declarations.{declared_type, parameters_of}
 use Rattle.clight_types.specs.Functions.{Own}
 use Rattle.clight_types.specs.Scopes.{Signature}

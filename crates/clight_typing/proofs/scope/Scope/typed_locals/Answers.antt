@@ -2,10 +2,10 @@ use Rattle.std.proofs.Common.{◌≡◌, ◌∙◌, ℕ, suc, ◌+◌, ◌++◌,
 use Rattle.std.proofs.lemmas.List.{map-append, length_push, drop_all, append-nil}
 use Rattle.std.proofs.lemmas.Iterator.Consumers.{YieldsList-turn, YieldsList-end}
 use Rattle.std.proofs.lemmas.Iterator.Adapters.{YieldsList-from_vec}
-use Rattle.clight_syntax.specs.Trees as s
+use Rattle.clight_source.specs.Trees as s
 use Rattle.clight_syntax.specs.TypedTrees.{Local}
-use Rattle.clight_syntax.specs.Views.{local_of as source_of}
-use Rattle.clight_syntax.specs.TypedViews.{local_of}
+use Rattle.clight_source.specs.Code.Views.{local_of as source_of}
+use Rattle.clight_syntax.specs.Code.TypedViews.{local_of}
 use Rattle.clight_types.specs.Functions.{Own}
 use Rattle.clight_typing.specs.HeldFile.{source_own}
 use Rattle.clight_typing.specs.HeldOwn.{own_of}

@@ -1,6 +1,6 @@
 use Rattle.std.proofs.Common.{◌≡◌, ◌+◌, ◌++◌, length, map, drop}
-use Rattle.clight_syntax.specs.TypedViews.{local_of}
-use Rattle.clight_syntax.specs.Views.{local_of as local_source_of}
+use Rattle.clight_syntax.specs.Code.TypedViews.{local_of}
+use Rattle.clight_source.specs.Code.Views.{local_of as local_source_of}
 use Rattle.clight_typing.specs.HeldFile.{source_own}
 use Rattle.clight_typing.specs.HeldOwn.{own_of}
 use Rattle.clight_typing.specs.HeldScopes.{scope_of, file_names}

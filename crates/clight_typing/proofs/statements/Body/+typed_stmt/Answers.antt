@@ -1,8 +1,8 @@
 use Rattle.std.proofs.Common.{◌≡◌, ◌∙◌, Result, Ok, Err, Vec, Global, ap, sym, rules}
 use Rattle.clight_syntax.specs.declared.typed.Stmt.{Stmt as Held}
 use Rattle.clight_syntax.specs.TypedTrees as p
-use Rattle.clight_syntax.specs.Views.{stmt_of as source_of, stmts_of as sources_of}
-use Rattle.clight_syntax.specs.TypedViews.{stmt_of, stmts_of}
+use Rattle.clight_source.specs.Code.Views.{stmt_of as source_of, stmts_of as sources_of}
+use Rattle.clight_syntax.specs.Code.TypedViews.{stmt_of, stmts_of}
 use Rattle.clight_syntax.proofs.TypedRows as typed
 use Rattle.clight_typing.specs.HeldBody.{body_for}
 use Rattle.clight_types.specs.TypedExpressions.{Checked, ◌>>=◌}

@@ -1,5 +1,5 @@
 use Rattle.std.proofs.Common.{◌≡◌, ◌≤◌, ◌++◌, drop}
-use Rattle.clight_syntax.specs.Views.{initialiser_of}
+use Rattle.clight_source.specs.Code.Views.{initialiser_of}
 use Rattle.clight_values.specs.Globals.{filled, numbers_of}
 use Rattle.clight_values.specs.Views.{cells_held, kinds_held}
 use Rattle.clight_values.proofs.memory.Memory.push_filled.Given as goal

@@ -1,4 +1,4 @@
-use Rattle.clight_syntax.specs.Types.{type_of}
+use Rattle.c_types.specs.Types.{type_of}
 use Rattle.clight_values.proofs.HeldCells.{stored_is}
 use Rattle.clight_values.proofs.memory.Memory.store.Goals as goal
 

@@ -1,0 +1,7 @@
+//! The types of C that the compiler's profile has (ISO/IEC 9899:1999, 6.2.5), their sizes, and the conversions between
+//! integer types.
+#![tactic(auto)]
+
+pub mod types;
+
+pub use types::Ty;

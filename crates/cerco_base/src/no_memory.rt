@@ -1,0 +1,21 @@
+//! Out of memory, as the one thing that can go wrong.
+
+use std::alloc::{AllocError, AllocFailed};
+use thiserror::Error;
+
+/// Out of memory, as the one thing that can go wrong.
+#[derive(Clone, Copy, Debug, PartialEq, Eq, Error)]
+#[error("out of memory")]
+pub struct NoMemory;
+
+impl From<AllocError> for NoMemory {
+    fn from(_: AllocError) -> Self {
+        NoMemory
+    }
+}
+
+impl<T: Drop> From<AllocFailed<T>> for NoMemory {
+    fn from(_: AllocFailed<T>) -> Self {
+        NoMemory
+    }
+}

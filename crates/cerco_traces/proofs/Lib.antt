@@ -1,0 +1,5 @@
+pub mod Simulation
+pub mod Sources
+pub mod HeadlineProofs
+pub mod Inserted
+mod Examples

@@ -1,0 +1,4 @@
+pub mod Systems
+pub mod Preservation
+pub mod Headline
+pub mod LabelledGraphs

@@ -1,0 +1,5 @@
+pub mod Markers
+pub mod Trees
+pub mod Spelling
+pub mod Depth
+pub mod Code
