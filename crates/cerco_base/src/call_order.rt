@@ -71,7 +71,7 @@ impl CallOrder {
         }
     }
 
-    /// Puts a function last, with those that call it. After want of memory the list is unchanged.
+    /// Puts a function last, with those that call it. When out of memory, the list is unchanged.
     pub fn add(&mut self, function: u32, callers: &[u32]) -> Result<(), NoMemory>
         requires new { Contains (functions_of self.old) function → ⊥ }
         requires callers { All (Contains (functions_of self.old)) callers.now }

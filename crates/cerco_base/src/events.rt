@@ -13,6 +13,24 @@ pub enum Port {
     P3,
 }
 
+impl Port {
+    ghost use Rattle.std.specs.Prelude.{◌≡◌, ◌<◌};
+    ghost use Rattle.cerco_base.specs.Ports.{port_number};
+
+    /// Its number, 0 to 3.
+    pub fn number(self) -> u8
+        ensures value { result ≡ port_number self }
+        ensures below { result < 4 }
+    {
+        match self {
+            Port::P0 => 0,
+            Port::P1 => 1,
+            Port::P2 => 2,
+            Port::P3 => 3,
+        }
+    }
+}
+
 /// Something that a run does and that can be seen from outside.
 #[derive(Clone, Copy, Debug, PartialEq, Eq)]
 pub enum Event {

@@ -29,7 +29,7 @@ impl Code {
         }
     }
 
-    /// Adds a byte at the end. After want of memory the code is unchanged.
+    /// Adds a byte at the end. When out of memory, the code is unchanged.
     pub fn push(&mut self, byte: u8) -> Result<(), NoMemory>
         ensures added { OnOk result (self.new ≡ self.old ++ byte ∷ []) }
         ensures same { OnErr result (self.new ≡ self.old) }
@@ -79,7 +79,7 @@ impl LabelList {
         }
     }
 
-    /// Adds the address of the next label. After want of memory the list is unchanged.
+    /// Adds the address of the next label. When out of memory, the list is unchanged.
     pub fn push(&mut self, at: u16) -> Result<(), NoMemory>
         ensures added { OnOk result (self.new ≡ self.old ++ at ∷ []) }
         ensures same { OnErr result (self.new ≡ self.old) }
@@ -121,7 +121,7 @@ impl StartBytes {
         }
     }
 
-    /// Adds a byte and its address at the end. After want of memory the list is unchanged.
+    /// Adds a byte and its address at the end. When out of memory, the list is unchanged.
     pub fn push(&mut self, at: u16, byte: u8) -> Result<(), NoMemory>
         ensures added { OnOk result (self.new ≡ self.old ++ (at, byte) ∷ []) }
         ensures same { OnErr result (self.new ≡ self.old) }

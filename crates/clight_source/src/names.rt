@@ -32,7 +32,7 @@ impl Names {
         }
     }
 
-    /// Adds the spelling of the next identifier. After want of memory the list is unchanged.
+    /// Adds the spelling of the next identifier. When out of memory, the list is unchanged.
     pub fn push(&mut self, spelling: &[u8]) -> Result<(), NoMemory>
         ensures added { OnOk result (self.new ≡ self.old ++ spelling.now ∷ []) }
         ensures same { OnErr result (self.new ≡ self.old) }

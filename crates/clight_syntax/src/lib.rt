@@ -11,6 +11,3 @@ pub use clight_source::{
 };
 pub use points::{Piece, Point, Points};
 pub use typed::{Cond, Labelled, Typed, TypedProgram};
-
-#[cfg(test)]
-mod tests;

@@ -69,7 +69,7 @@ impl Points {
         }
     }
 
-    /// Adds a point at the end. After want of memory the list is unchanged.
+    /// Adds a point at the end. When out of memory, the list is unchanged.
     pub fn push(&mut self, point: Point) -> Result<(), NoMemory>
         ensures added { OnOk result (self.new ≡ self.old ++ point ∷ []) }
         ensures same { OnErr result (self.new ≡ self.old) }

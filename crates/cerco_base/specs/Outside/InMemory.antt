@@ -28,7 +28,7 @@ memory_sink_state m = record { known = true; bytes = m.bytes.items; faults = m.f
 abbrev pub sound_sink_state : SoundSink → SinkState
 sound_sink_state m = record { known = true; bytes = m.bytes.items; faults = 0; last_fault = []; own_name = []; reference = 0; beside_known = true; beside = λ q. None }
 
--- the answer is `failed` exactly where the call is due to fail; want of memory may come in place of any answer
+-- the answer is `failed` exactly where the call is due to fail; out of memory may come in place of any answer
 pub record FailsWhereDue {T E : Type 0} (failed memory : E) (due : Bool) (result : Result T E) : Type 0 where
   pub done : OnOk result (due ≡ false)
   pub failing : IfErr result (λ e. e ≡ failed → due ≡ true)

@@ -41,7 +41,7 @@ impl MemoryFiles {
         }
     }
 
-    /// Puts a whole file there, which is no call of [`Files`]. After want of memory no file has changed.
+    /// Puts a whole file there, which is no call of [`Files`]. When out of memory, no file has changed.
     pub fn place(&mut self, name: &str, bytes: &[u8]) -> Result<(), NoMemory>
         ensures done { OnOk result (SetsFile (memory_files_state self.old).file (memory_files_state self.new).file name.now bytes.now) }
         ensures same { OnErr result (SameNames (memory_files_state self.old).file (memory_files_state self.new).file) }
@@ -58,7 +58,7 @@ impl MemoryFiles {
         self.store.bytes(name)
     }
 
-    /// Lets the call with this number fail. After want of memory nothing has changed.
+    /// Lets the call with this number fail. When out of memory, nothing has changed.
     pub fn fail(&mut self, call: u64) -> Result<(), NoMemory>
         ensures done { OnOk result (self.new.failing.items ≡ self.old.failing.items ++ call ∷ []) }
         ensures same { OnErr result (self.new.failing.items ≡ self.old.failing.items) }
@@ -166,7 +166,7 @@ impl MemorySink {
         self.bytes.as_slice()
     }
 
-    /// Lets the call with this number fail. After want of memory nothing has changed.
+    /// Lets the call with this number fail. When out of memory, nothing has changed.
     pub fn fail(&mut self, call: u64) -> Result<(), NoMemory>
         ensures done { OnOk result (self.new.failing.items ≡ self.old.failing.items ++ call ∷ []) }
         ensures same { OnErr result (self.new.failing.items ≡ self.old.failing.items) }

@@ -1,4 +1,4 @@
-//! Files and an output in memory that never fail, but for want of memory.
+//! Files and an output in memory that never fail, but for out of memory.
 ghost use Rattle.std.specs.Prelude.{◌≡◌, option_map, OnOk, OnErr, None, List, ℕ, []};
 
 use crate::no_memory::NoMemory;
@@ -26,7 +26,7 @@ impl SoundFiles {
         }
     }
 
-    /// Puts a whole file there. After want of memory no file has changed.
+    /// Puts a whole file there. When out of memory, no file has changed.
     pub fn place(&mut self, name: &str, bytes: &[u8]) -> Result<(), NoMemory>
         ensures done { OnOk result (SetsFile (sound_files_state self.old).file (sound_files_state self.new).file name.now bytes.now) }
         ensures same { OnErr result (SameNames (sound_files_state self.old).file (sound_files_state self.new).file) }
