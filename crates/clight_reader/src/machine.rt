@@ -9,9 +9,9 @@ use cerco_base::NoMemory;
 use clight_binding::expressions::{in_cast, member_name, operand, tag_of_cast};
 use clight_declarations::declarations::in_declaration;
 use clight_parts::forms::{Form, Mode};
+use clight_source::symbol::Terminal;
 use clight_statements::marks::behind;
 use clight_statements::statements::in_statement;
-use clight_source::symbol::Terminal;
 use std::alloc::Global;
 
 /// Reads one terminal symbol.

@@ -1,4 +1,4 @@
-//! Files and an output in memory that never fail, but for out of memory.
+//! Files and an output in memory that fail only when out of memory.
 ghost use Rattle.std.specs.Prelude.{◌≡◌, option_map, OnOk, OnErr, None, List, ℕ, []};
 
 use crate::no_memory::NoMemory;
