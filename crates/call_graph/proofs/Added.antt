@@ -3,7 +3,7 @@ use Rattle.std.proofs.Common.{◌≡◌, ℕ, ◌-◌, ◌<◌, List, [], ◌∷
 use Rattle.std.proofs.lemmas.List.{map-set, get_or-map, set-get_or, set-set, get_or-set_same}
 use Rattle.std.proofs.Math.Seq.{take-append_seam}
 use Rattle.call_graph.specs.CallPaths.{list_added}
-use Rattle.call_graph.specs.Walks.{list_at}
+use Rattle.call_graph.specs.Code.Walks.{list_at}
 use Rattle.call_graph.specs.declared.nodes.Node.{Node}
 
 -- the changed node has one number more

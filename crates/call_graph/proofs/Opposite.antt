@@ -6,8 +6,8 @@ use Rattle.std.proofs.lemmas.List.{get_or-set_same, get_or-set_other, length-set
 use Rattle.std.proofs.lemmas.List.Elements.{Contains-append_left, Contains-push, Contains-push_cases}
 use Rattle.cerco_base.specs.CallOrder.{Called}
 use Rattle.call_graph.specs.CallPaths.{list_added, Calls, CallsIn, IsOrderOf, IsOnCycle}
-use Rattle.call_graph.specs.Nodes.{CallsTo, AreOpposite}
-use Rattle.call_graph.specs.Walks.{list_at, IsOrderByCallers}
+use Rattle.call_graph.specs.Code.Nodes.{CallsTo, AreOpposite}
+use Rattle.call_graph.specs.Code.Walks.{list_at, IsOrderByCallers}
 use Rattle.call_graph.proofs.Entries.{same_or_not}
 use Rattle.call_graph.proofs.Paths.{cycle-along}
 use Rattle.call_graph.proofs.OrderPaths.{stands, no_cycle}

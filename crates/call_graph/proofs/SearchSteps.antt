@@ -6,9 +6,9 @@ use Rattle.std.proofs.lemmas.List.{get_or_past, get_or-set_same, get_or-set_othe
 use Rattle.std.proofs.lemmas.List.Elements.{Contains-append_left, Contains-push, Contains-push_cases}
 use Rattle.std.proofs.lemmas.List.Sums.{sum_by-set}
 use Rattle.call_graph.specs.CallPaths.{Calls, AreCalledFrom, IsOnCycle}
-use Rattle.call_graph.specs.Nodes.{callees_of, AreNodes}
-use Rattle.call_graph.specs.Searches.{IsSeen, Reaches, IsSearch, Sees, unseen}
-use Rattle.call_graph.specs.Walks.{list_at}
+use Rattle.call_graph.specs.Code.Nodes.{callees_of, AreNodes}
+use Rattle.call_graph.specs.Code.Searches.{IsSeen, Reaches, IsSearch, Sees, unseen}
+use Rattle.call_graph.specs.Code.Walks.{list_at}
 use Rattle.call_graph.specs.declared.nodes.Node.{Node}
 use Rattle.call_graph.proofs.Entries.{same_or_not, contains_none, contains_at}
 use Rattle.call_graph.proofs.Paths.{called-push}

@@ -9,7 +9,7 @@ use Rattle.std.proofs.lemmas.List.Elements.{Contains-append_left, Contains-push,
 use Rattle.std.proofs.lemmas.List.Sums.{sum_by_push}
 use Rattle.cerco_base.specs.CallOrder.{Called, functions_of, callers_at, IsCallOrder}
 use Rattle.call_graph.specs.CallPaths.{CallsIn, IsCallPath, IsLargestSum, IsLargestSumBefore, sum_along}
-use Rattle.call_graph.specs.Largest.{IsLargestWith, AreSums}
+use Rattle.call_graph.specs.Code.Largest.{IsLargestWith, AreSums}
 use Rattle.call_graph.proofs.Entries.{last_cases, contains_at}
 use Rattle.call_graph.proofs.Paths.{path-push, path-front, path-last}
 use Rattle.call_graph.proofs.OrderPaths.{StandsAt, length-functions, stands, stands_before, contains_standing, not_twice, one_place, last_stands}

@@ -6,8 +6,8 @@ use Rattle.std.proofs.lemmas.List.{reverse-append, length-map, get_or-map, get_o
 use Rattle.std.proofs.lemmas.Bool.{cases_lt}
 use Rattle.cerco_base.specs.CallOrder.{Called, functions_of}
 use Rattle.call_graph.specs.CallPaths.{IsOnCycle}
-use Rattle.call_graph.specs.Nodes.{callees_of, callers_of, CallsTo, AreNodes}
-use Rattle.call_graph.specs.Walks.{list_at, mark_of, IsWalk, IsWalkOf, Opens, Places, Steps, steps_of, IsUnderWay, IsOrderByCallers}
+use Rattle.call_graph.specs.Code.Nodes.{callees_of, callers_of, CallsTo, AreNodes}
+use Rattle.call_graph.specs.Code.Walks.{list_at, mark_of, IsWalk, IsWalkOf, Opens, Places, Steps, steps_of, IsUnderWay, IsOrderByCallers}
 use Rattle.call_graph.specs.declared.nodes.Node.{Node}
 use Rattle.call_graph.specs.declared.walk.Walk.{Walk}
 use Rattle.call_graph.specs.declared.walk.Mark.{Mark}

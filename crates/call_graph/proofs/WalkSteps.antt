@@ -10,8 +10,8 @@ use Rattle.std.proofs.lemmas.List.Sums.{sum_by-set}
 use Rattle.cerco_base.specs.CallOrder.{Called, functions_of, callers_at}
 use Rattle.cerco_base.proofs.CallOrders.{order-push}
 use Rattle.call_graph.specs.CallPaths.{AreCalledFrom}
-use Rattle.call_graph.specs.Nodes.{CallsTo}
-use Rattle.call_graph.specs.Walks.{list_at, mark_of, CallsFirst, IsOpenPath, IsWalk, steps_of}
+use Rattle.call_graph.specs.Code.Nodes.{CallsTo}
+use Rattle.call_graph.specs.Code.Walks.{list_at, mark_of, CallsFirst, IsOpenPath, IsWalk, steps_of}
 use Rattle.call_graph.specs.declared.walk.Mark.{Mark}
 use Rattle.call_graph.specs.declared.walk.Mark.TheVariants.{New, Open, Placed}
 use Rattle.call_graph.proofs.Entries.{same_or_not, contains_here, contains_there, contains_cases, contains_none}

@@ -1,5 +1,2 @@
 pub mod CallPaths
-pub mod Nodes
-pub mod Walks
-pub mod Searches
-pub mod Largest
+pub mod Code

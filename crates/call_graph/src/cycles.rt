@@ -1,8 +1,8 @@
 //! Which functions are on a cycle of calls, by a search along the calls.
 ghost use Rattle.std.specs.Prelude.{◌≡◌, ℕ, ◌<◌, ◌↔◌, true, false, length, All, Contains, IsTrue, IfOk, Ok, Err};
 ghost use Rattle.call_graph.specs.CallPaths.{Calls, IsOnCycle, IsFirstOnCycle};
-ghost use Rattle.call_graph.specs.Nodes.{callees_of, AreNodes};
-ghost use Rattle.call_graph.specs.Searches.{Sees};
+ghost use Rattle.call_graph.specs.Code.Nodes.{callees_of, AreNodes};
+ghost use Rattle.call_graph.specs.Code.Searches.{Sees};
 
 use crate::faults::OrderFault;
 use crate::nodes::Node;

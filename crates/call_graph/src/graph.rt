@@ -23,7 +23,7 @@ impl Model for CallGraph {
 
     ghost Value = { List (List ℕ) };
 
-    ghost use Rattle.call_graph.specs.Nodes.{callees_of, AreNodes};
+    ghost use Rattle.call_graph.specs.Code.Nodes.{callees_of, AreNodes};
 
     ghost view = { λ g. callees_of g.nodes.items };
 

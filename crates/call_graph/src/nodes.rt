@@ -1,7 +1,7 @@
 //! The calls of each function, both ways.
 ghost use Rattle.std.specs.Prelude.{◌≡◌, ℕ, ◌<◌, List, length, OnOk, OnErr};
 ghost use Rattle.call_graph.specs.CallPaths.{list_added};
-ghost use Rattle.call_graph.specs.Nodes.{callees_of, callers_of};
+ghost use Rattle.call_graph.specs.Code.Nodes.{callees_of, callers_of};
 
 use cerco_base::NoMemory;
 

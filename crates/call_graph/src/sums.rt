@@ -2,7 +2,7 @@
 ghost use Rattle.std.specs.Prelude.{◌≡◌, ℕ, ◌+◌, ◌^◌, ◌<◌, ◌↔◌, List, length, All, Contains, IfOk, slice_index};
 ghost use Rattle.cerco_base.specs.CallOrder.{functions_of};
 ghost use Rattle.call_graph.specs.CallPaths.{CallsIn, IsCallPath, IsLargestSum, IsLargestSumBefore, sum_along};
-ghost use Rattle.call_graph.specs.Largest.{IsLargestWith};
+ghost use Rattle.call_graph.specs.Code.Largest.{IsLargestWith};
 
 use cerco_base::{CallOrder, NoMemory};
 use std::alloc::Global;

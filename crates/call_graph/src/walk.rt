@@ -2,8 +2,8 @@
 ghost use Rattle.std.specs.Prelude.{◌≡◌, ℕ, ◌<◌, ◌≤◌, List, [], ◌∷◌, ◌++◌, length, All, Contains, IfOk, OnOk, Err, slice_index};
 ghost use Rattle.cerco_base.specs.CallOrder.{functions_of};
 ghost use Rattle.call_graph.specs.CallPaths.{IsOnCycle};
-ghost use Rattle.call_graph.specs.Nodes.{callers_of, CallsTo, AreNodes};
-ghost use Rattle.call_graph.specs.Walks.{mark_of, IsWalkOf, IsStart, Opens, Places, Steps, IsOrderByCallers};
+ghost use Rattle.call_graph.specs.Code.Nodes.{callers_of, CallsTo, AreNodes};
+ghost use Rattle.call_graph.specs.Code.Walks.{mark_of, IsWalkOf, IsStart, Opens, Places, Steps, IsOrderByCallers};
 
 use crate::faults::OrderFault;
 use crate::nodes::Node;

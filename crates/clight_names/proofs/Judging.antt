@@ -11,7 +11,7 @@ use Rattle.cerco_base.specs.declared.reasons.Reason.TheVariants as r
 use Rattle.clight_names.specs.declared.occurrences.Occurrence.{Occurrence}
 use Rattle.clight_names.specs.declared.known.Known.{Known}
 use Rattle.clight_names.specs.Regions.{has_name, defines}
-use Rattle.clight_names.specs.Knowledge.{AreDefined, Knows}
+use Rattle.clight_names.specs.Code.Knowledge.{AreDefined, Knows}
 use Rattle.clight_names.specs.NameFaults.{NameFault, name_fault, name_kind, first_wrong}
 use Rattle.clight_names.specs.Outcomes.{AnswersFault}
 

@@ -9,7 +9,7 @@ use Rattle.clight_names.specs.declared.regions.Region.TheVariants.{Tags, Members
 use Rattle.clight_names.specs.declared.regions.Place.{Place}
 use Rattle.clight_names.specs.declared.known.Known.{Known}
 use Rattle.clight_names.specs.Regions.{place_eq, region_eq, declared_in, is_prototype, is_region, has_name, declares, declares_more}
-use Rattle.clight_names.specs.Knowledge.{Knows}
+use Rattle.clight_names.specs.Code.Knowledge.{Knows}
 use Rattle.clight_names.specs.contracts.regions.PlacePartialEq.TheImpl.{ghosts}
 
 place : Region → ℕ → Place

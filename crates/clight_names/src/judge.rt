@@ -5,7 +5,7 @@ ghost use Rattle.cerco_base.specs.declared.reasons.Reason.TheVariants as r;
 ghost use Rattle.clight_source.specs.Code.Views.{program_of};
 ghost use Rattle.clight_names.specs.declared.occurrences.Occurrence.{Occurrence};
 ghost use Rattle.clight_names.specs.Spellings.{main_name as main_name_lem};
-ghost use Rattle.clight_names.specs.Knowledge.{AreDefined};
+ghost use Rattle.clight_names.specs.Code.Knowledge.{AreDefined};
 ghost use Rattle.clight_names.specs.NameFaults.{first_wrong as first_wrong_lem, first_name_fault};
 ghost use Rattle.clight_names.specs.Outcomes.{AnswersFault};
 

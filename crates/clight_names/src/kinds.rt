@@ -3,7 +3,7 @@ ghost use Rattle.std.specs.Prelude.{◌≡◌, ◌∷◌, [], List, length, slic
 ghost use Rattle.cerco_base.specs.declared.reasons.NameKind.TheVariants as k;
 ghost use Rattle.clight_names.specs.declared.occurrences.Occurrence.{Occurrence};
 ghost use Rattle.clight_names.specs.Spellings.{main_name as main_name_lem};
-ghost use Rattle.clight_names.specs.Knowledge.{AreDefined, Knows};
+ghost use Rattle.clight_names.specs.Code.Knowledge.{AreDefined, Knows};
 ghost use Rattle.clight_names.specs.NameFaults.{is_reserved as is_reserved_lem, is_long as is_long_lem, is_undefined as is_undefined_lem, is_other_form as is_other_form_lem, first_kind as first_kind_lem, name_kind};
 
 use crate::known::{Known, is_prototype};

@@ -5,7 +5,7 @@ ghost use Rattle.clight_names.specs.declared.occurrences.Occurrence.{Occurrence}
 ghost use Rattle.clight_names.specs.declared.regions.Place.{Place};
 ghost use Rattle.clight_names.specs.Regions.{place_eq, is_prototype as is_prototype_lem, is_definition as is_definition_lem};
 ghost use Rattle.clight_names.specs.NameFaults.{is_same as is_same_lem, is_twice as is_twice_lem, is_unknown as is_unknown_lem};
-ghost use Rattle.clight_names.specs.Knowledge.{Knows};
+ghost use Rattle.clight_names.specs.Code.Knowledge.{Knows};
 
 use crate::occurrences::{Occurrence, Role};
 use crate::regions::{Place, Region, declared_in};

@@ -11,7 +11,7 @@ use Rattle.object_hex.specs.declared.reading.faults.HexError.TheVariants.{Fault,
 use Rattle.object_hex.specs.Lines.{lines}
 use Rattle.object_hex.specs.HexMeaning.{code_of, fault_at, fault_behind, fault_here, has_end, IsHexText, IsFirstFault}
 use Rattle.object_hex.specs.HexAnswer.{IsHexAnswer}
-use Rattle.object_hex.specs.Reading.{IsReadUpTo}
+use Rattle.object_hex.specs.Code.Reading.{IsReadUpTo}
 use Rattle.object_hex.proofs.Splits.{lines-nil}
 use Rattle.object_hex.proofs.Places.{code_held}
 

@@ -10,7 +10,7 @@ use Rattle.std.proofs.lemmas.List.{drop_more, get_or-replicate, get_or-set_same,
 use Rattle.std.proofs.lemmas.List.FromFn.{fill_by_all}
 use Rattle.object_hex.specs.HexMeaning.{byte_at, has_some, load_fault, given, highest_end, code_of}
 use Rattle.object_hex.specs.declared.reading.faults.HexKind.TheVariants.{Range, Twice}
-use Rattle.object_hex.specs.Reading.{Holds}
+use Rattle.object_hex.specs.Code.Reading.{Holds}
 
 pub byte_at-within : (offset : ℕ) (bytes : List ℕ) (address : ℕ) → offset ≤ address → byte_at offset bytes address ≡ slice_get bytes (address - offset)
 byte_at-within offset bytes address le = grind (arith, nat_tests)

@@ -8,7 +8,7 @@ use Rattle.object_hex.specs.declared.reading.record.RecordType.{RecordType}
 use Rattle.object_hex.specs.declared.reading.record.RecordType.TheVariants.{Data}
 use Rattle.object_hex.specs.Records.{HexRecord, record_bytes, record_in, from_bytes, with_type, type_of, offset_of, data_of, loaded}
 use Rattle.object_hex.specs.HexMeaning.{byte_at, byte_in, end_in, ends_file, is_end_type, fault_behind, fault_of, given, has_end, highest_end, load_fault}
-use Rattle.object_hex.specs.Reading.{Holds, IsReadUpTo}
+use Rattle.object_hex.specs.Code.Reading.{Holds, IsReadUpTo}
 use Rattle.object_hex.proofs.Places.{byte_at-nil}
 use Rattle.object_hex.proofs.Behind.{given-push, highest_end-push, has_end-push}
 

@@ -6,5 +6,5 @@ pub mod Lines
 pub mod MapAnswer
 pub mod MapMeaning
 pub mod MapText
-pub mod Reading
 pub mod Records
+pub mod Code

@@ -22,7 +22,7 @@ impl HexReader {
     ghost use Rattle.std.specs.Prelude.{◌+◌, false, slice_index};
     ghost use Rattle.object_hex.specs.HexMeaning.{fault_behind, has_end};
     ghost use Rattle.object_hex.specs.Records.{record_bytes};
-    ghost use Rattle.object_hex.specs.Reading.{IsReadUpTo};
+    ghost use Rattle.object_hex.specs.Code.Reading.{IsReadUpTo};
 
     fn new(alloc: Global) -> Result<HexReader, AllocError>
         ensures { IfOk result (λ reader. IsReadUpTo [] reader.image.places.items reader.image.reach reader.ended) }

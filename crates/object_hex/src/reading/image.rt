@@ -30,7 +30,7 @@ impl Image {
     ghost use Rattle.std.specs.List.{list_any};
     ghost use Rattle.std.specs.Prelude.{slice_range, is_some};
     ghost use Rattle.object_hex.specs.HexMeaning.{byte_at, load_fault};
-    ghost use Rattle.object_hex.specs.Reading.{Holds};
+    ghost use Rattle.object_hex.specs.Code.Reading.{Holds};
 
     /// No byte is given.
     pub fn new(alloc: Global) -> Result<Image, AllocError>

@@ -1,6 +1,6 @@
 use Rattle.std.proofs.Common.{arith, below_more, ℕ, length}
 use Rattle.call_graph.specs.CallPaths.{Calls, IsOnCycle}
-use Rattle.call_graph.specs.Nodes.{callees_of}
+use Rattle.call_graph.specs.Code.Nodes.{callees_of}
 use Rattle.call_graph.proofs.cycles.first_on_cycle.Goals as goal
 
 pub loop-function-preserved : goal.loop-function-preserved

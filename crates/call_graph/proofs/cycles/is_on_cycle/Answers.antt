@@ -1,6 +1,6 @@
 use Rattle.std.proofs.Common.{◌≡◌, ℕ, ◌-◌, Ok, List, [], ◌++◌, take, vec_len, refl, ap, sym, ◌∙◌, arith}
-use Rattle.call_graph.specs.Nodes.{callees_of}
-use Rattle.call_graph.specs.Walks.{list_at}
+use Rattle.call_graph.specs.Code.Nodes.{callees_of}
+use Rattle.call_graph.specs.Code.Walks.{list_at}
 use Rattle.call_graph.proofs.SearchSteps.{from_within, callees_within, callees-node, search_step, search_found, search_over}
 use Rattle.call_graph.proofs.cycles.is_on_cycle.Goals as goal
 

@@ -1,6 +1,6 @@
 use Rattle.std.proofs.Common.{◌+◌, length}
-use Rattle.call_graph.specs.Nodes.{callees_of}
-use Rattle.call_graph.specs.Searches.{IsSearch, unseen}
+use Rattle.call_graph.specs.Code.Nodes.{callees_of}
+use Rattle.call_graph.specs.Code.Searches.{IsSearch, unseen}
 use Rattle.call_graph.proofs.cycles.is_on_cycle.Given as goal
 
 abbrev pub invariant-loop-from : goal.invariant-loop-from

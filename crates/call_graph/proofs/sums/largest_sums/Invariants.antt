@@ -1,4 +1,4 @@
-use Rattle.call_graph.specs.Largest.{AreSums}
+use Rattle.call_graph.specs.Code.Largest.{AreSums}
 use Rattle.call_graph.proofs.sums.largest_sums.Given as goal
 
 abbrev pub invariant-loop-i : goal.invariant-loop-i

@@ -1,5 +1,5 @@
 use Rattle.std.proofs.Common.{take}
-use Rattle.call_graph.specs.Largest.{IsLargestWith}
+use Rattle.call_graph.specs.Code.Largest.{IsLargestWith}
 use Rattle.call_graph.proofs.sums.largest_with.Given as goal
 
 abbrev pub invariant-loop-caller : goal.invariant-loop-caller

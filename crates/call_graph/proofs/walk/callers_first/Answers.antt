@@ -1,5 +1,5 @@
 use Rattle.std.proofs.Common.{arith}
-use Rattle.call_graph.specs.Nodes.{callers_of}
+use Rattle.call_graph.specs.Code.Nodes.{callers_of}
 use Rattle.call_graph.proofs.Turns.{order_at_rest, length-callers}
 use Rattle.call_graph.proofs.walk.callers_first.Goals as goal
 

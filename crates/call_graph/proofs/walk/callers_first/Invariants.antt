@@ -1,6 +1,6 @@
 use Rattle.std.proofs.Common.{◌≡◌, ℕ, ◌<◌, []}
-use Rattle.call_graph.specs.Nodes.{callers_of}
-use Rattle.call_graph.specs.Walks.{mark_of, IsWalkOf}
+use Rattle.call_graph.specs.Code.Nodes.{callers_of}
+use Rattle.call_graph.specs.Code.Walks.{mark_of, IsWalkOf}
 use Rattle.call_graph.specs.declared.walk.Mark.TheVariants.{Placed}
 use Rattle.call_graph.proofs.walk.callers_first.Given as goal
 

@@ -1,5 +1,5 @@
 use Rattle.std.proofs.Common.{◌≡◌, ℕ, ◌-◌, ◌<◌, ◌≤◌, length, slice_index}
-use Rattle.call_graph.specs.Walks.{mark_of}
+use Rattle.call_graph.specs.Code.Walks.{mark_of}
 use Rattle.call_graph.specs.declared.walk.Mark.TheVariants.{Placed}
 use Rattle.call_graph.proofs.walk.first_missing.Given as goal
 

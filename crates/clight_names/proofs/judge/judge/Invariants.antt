@@ -1,5 +1,5 @@
 use Rattle.std.proofs.Common.{◌≡◌, [], take, drop}
-use Rattle.clight_names.specs.Knowledge.{Knows}
+use Rattle.clight_names.specs.Code.Knowledge.{Knows}
 use Rattle.clight_names.specs.NameFaults.{first_wrong}
 use Rattle.clight_names.proofs.judge.judge.Given as goal
 

@@ -1,5 +1,5 @@
 use Rattle.std.proofs.Common.{take}
-use Rattle.call_graph.specs.Searches.{Sees}
+use Rattle.call_graph.specs.Code.Searches.{Sees}
 use Rattle.call_graph.proofs.cycles.Search.see.Given as goal
 
 abbrev pub invariant-loop-callee : goal.invariant-loop-callee

@@ -1,5 +1,5 @@
 use Rattle.std.proofs.Common.{ℕ, ◌<◌, List, length, sym, subst, ap, ◌∙◌}
-use Rattle.call_graph.specs.Nodes.{callees_of, callers_of, AreNodes}
+use Rattle.call_graph.specs.Code.Nodes.{callees_of, callers_of, AreNodes}
 use Rattle.call_graph.specs.declared.nodes.Node.{Node}
 use Rattle.call_graph.proofs.Opposite.{connected, whole_slice}
 use Rattle.call_graph.proofs.graph.CallGraph.add_call.Goals as goal

@@ -2,8 +2,8 @@ use Rattle.std.proofs.Common.{ℕ, List, Err, length, subst, sym, ap, ◌∙◌}
 use Rattle.std.specs.Prelude.{IfOk}
 use Rattle.std.proofs.lemmas.Result.{IfOk-weaker}
 use Rattle.call_graph.specs.CallPaths.{IsOnCycle, IsOrderOf}
-use Rattle.call_graph.specs.Nodes.{callees_of, callers_of, CallsTo, AreNodes}
-use Rattle.call_graph.specs.Walks.{IsOrderByCallers}
+use Rattle.call_graph.specs.Code.Nodes.{callees_of, callers_of, CallsTo, AreNodes}
+use Rattle.call_graph.specs.Code.Walks.{IsOrderByCallers}
 use Rattle.call_graph.specs.declared.nodes.Node.{Node}
 use Rattle.call_graph.proofs.Opposite.{order_of, order_without_cycle, cycle_of}
 use Rattle.call_graph.proofs.graph.CallGraph.order.Goals as goal

@@ -1,5 +1,5 @@
-use Rattle.call_graph.specs.Nodes.{callers_of}
-use Rattle.call_graph.specs.Walks.{IsUnderWay, steps_left}
+use Rattle.call_graph.specs.Code.Nodes.{callers_of}
+use Rattle.call_graph.specs.Code.Walks.{IsUnderWay, steps_left}
 use Rattle.call_graph.proofs.walk.Walk.place_with_callers.Given as goal
 
 abbrev pub invariant-loop-top : goal.invariant-loop-top

@@ -1,10 +1,10 @@
 use Rattle.std.proofs.Common.{◌≡◌, ℕ, ◌<◌, List, length, get_or, arith, subst, refl, ap, sym, ◌∙◌}
 use Rattle.std.proofs.lemmas.Result.{on_ok_weaker}
-use Rattle.call_graph.specs.Walks.{mark_of}
+use Rattle.call_graph.specs.Code.Walks.{mark_of}
 use Rattle.call_graph.specs.declared.walk.Mark.{Mark}
 use Rattle.call_graph.specs.declared.walk.Mark.TheVariants.{New, Placed}
 use Rattle.call_graph.specs.CallPaths.{IsOnCycle}
-use Rattle.call_graph.specs.Nodes.{callers_of, CallsTo}
+use Rattle.call_graph.specs.Code.Nodes.{callers_of, CallsTo}
 use Rattle.call_graph.proofs.WalkSteps.{mark_read}
 use Rattle.call_graph.proofs.Turns.{at_top, known_read, callers_marked, all_known, turn_places, turn_opens, turn_cycles, is_open}
 use Rattle.call_graph.proofs.walk.Walk.step.Goals as goal

@@ -2,7 +2,7 @@
 use Rattle.std.specs.Prelude.{◌≡◌, ℕ, ◌+◌, ◌<◌, ◌≤◌, ◌↔◌, List, [], ◌∷◌, ◌++◌, length, reverse, replicate, Contains, slice_set, slice_index, slice_index_or}
 use Rattle.std.specs.List.{sum_by}
 use Rattle.cerco_base.specs.CallOrder.{Called, functions_of, callers_at, IsCallOrder}
-use Rattle.call_graph.specs.Nodes.{CallsTo}
+use Rattle.call_graph.specs.Code.Nodes.{CallsTo}
 use Rattle.call_graph.specs.declared.walk.Walk.{Walk}
 use Rattle.call_graph.specs.declared.walk.Mark.{Mark}
 use Rattle.call_graph.specs.declared.walk.Mark.TheVariants.{New, Open, Placed}

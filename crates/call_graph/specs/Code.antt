@@ -1,0 +1,4 @@
+pub mod Nodes
+pub mod Walks
+pub mod Searches
+pub mod Largest
