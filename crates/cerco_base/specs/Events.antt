@@ -28,3 +28,8 @@ pub data Stop : Type 0 where
 -- A port script, the input that port readings take in turn, is a list of bytes.
 abbrev pub IsScript : List ℕ → Type 0
 IsScript = All (λ byte. byte < 2 ^ 8)
+
+-- what the next reading of a port shows: the next byte of the script, and FFH past its end (own)
+abbrev pub next_reading : List ℕ → ℕ
+next_reading [] = 255
+next_reading (byte ∷ bytes) = byte

@@ -1,8 +1,8 @@
 -- What a program of port writes is compiled to keeps the promise.
 use Rattle.std.proofs.Common.{◌≡◌, ℕ, zero, suc, ◌<◌, List, [], ◌∷◌, ◌++◌, map, false, IsTrue, Result, Ok, Err, is_err, sym, ap, subst, ◌∙◌, lit<, lit≤, arith, All, slice_index}
 use Rattle.std.proofs.lemmas.List.Elements.{All-head, All-tail}
-use Rattle.mcs51_isa.specs.declared.instr.Instr.TheVariants.{Return}
-use Rattle.mcs51_isa.specs.declared.instr.ReturnKind.TheVariants.{Ret}
+use Rattle.mcs51_isa.specs.declared.instr.Instr.TheVariants.{Ret}
+use Rattle.mcs51_isa.specs.declared.instr.ReturnKind.TheVariants.{FromCall}
 use Rattle.sim51.specs.Placed.{code_of_instrs}
 use Rattle.object_hex.specs.HexMeaning.{IsHexText}
 use Rattle.object_hex.specs.MapMeaning.{IsMapText}
@@ -43,17 +43,17 @@ byte_more : (x : ℕ) (xs : List ℕ) → x < 256 → IsBytes xs → IsBytes (x 
 byte_more x xs small more zero = small
 byte_more x xs small more (suc i) = more i
 
-body_bytes : (values : List ℕ) → All (λ v. v < 256) values → IsBytes (code_of_instrs (map write values ++ Return Ret ∷ []))
+body_bytes : (values : List ℕ) → All (λ v. v < 256) values → IsBytes (code_of_instrs (map write values ++ Ret FromCall ∷ []))
 body_bytes [] all = byte_more 0x22 [] (lit< tt) (λ i. lit< tt)
 body_bytes (v ∷ values) all =
-    let rest = code_of_instrs (map write values ++ Return Ret ∷ []) in
+    let rest = code_of_instrs (map write values ++ Ret FromCall ∷ []) in
     byte_more 0x75 (0x90 ∷ v ∷ rest) (lit< tt)
     (byte_more 0x90 (v ∷ rest) (lit< tt)
     (byte_more v rest (All-head (λ x. x < 256) v values all) (body_bytes values (All-tail (λ x. x < 256) v values all))))
 
 code_bytes : (values : List ℕ) → All (λ v. v < 256) values → IsBytes (code values)
 code_bytes values all =
-    let r₈ : List ℕ = 0x00 ∷ code_of_instrs (map write values ++ Return Ret ∷ []) in
+    let r₈ : List ℕ = 0x00 ∷ code_of_instrs (map write values ++ Ret FromCall ∷ []) in
     let r₇ : List ℕ = 0xFE ∷ r₈ in
     let r₆ : List ℕ = 0x80 ∷ r₇ in
     let r₅ : List ℕ = 0x08 ∷ r₆ in
@@ -63,7 +63,7 @@ code_bytes values all =
     let r₁ : List ℕ = 0x81 ∷ r₂ in
     byte_more 0x75 r₁ (lit< tt) (byte_more 0x81 r₂ (lit< tt) (byte_more 0x7F r₃ (lit< tt)
     (byte_more 0x12 r₄ (lit< tt) (byte_more 0x00 r₅ (lit< tt) (byte_more 0x08 r₆ (lit< tt)
-    (byte_more 0x80 r₇ (lit< tt) (byte_more 0xFE r₈ (lit< tt) (byte_more 0x00 (code_of_instrs (map write values ++ Return Ret ∷ [])) (lit< tt) (body_bytes values all)))))))))
+    (byte_more 0x80 r₇ (lit< tt) (byte_more 0xFE r₈ (lit< tt) (byte_more 0x00 (code_of_instrs (map write values ++ Ret FromCall ∷ [])) (lit< tt) (body_bytes values all)))))))))
 
 -- the text of the one label
 labels_mean : IsMapText (map_text labels) labels

@@ -1,7 +1,7 @@
 -- How long the objects of programs of port writes are.
 use Rattle.std.proofs.Common.{◌≡◌, ℕ, ◌*◌, ◌≤◌, List, [], ◌∷◌, length, map, refl, arith, append-nil, subst}
-use Rattle.mcs51_isa.specs.declared.instr.Instr.TheVariants.{Return}
-use Rattle.mcs51_isa.specs.declared.instr.ReturnKind.TheVariants.{Ret}
+use Rattle.mcs51_isa.specs.declared.instr.Instr.TheVariants.{Ret}
+use Rattle.mcs51_isa.specs.declared.instr.ReturnKind.TheVariants.{FromCall}
 use Rattle.sim51.specs.Placed.{bytes_of, Stands}
 use Rattle.sim51.proofs.Placed.{length-code_of_instrs, bytes_of-append, instrs_there}
 use Rattle.cerco_command.specs.PortObjects.{write, instructions, code}
@@ -14,7 +14,7 @@ bytes_of_writes (v ∷ vs) = let more = bytes_of_writes vs in omega arith
 pub code_fits : (values : List ℕ) → 4 * length values ≤ 65535 → length (code values) ≤ 65536
 code_fits values few =
     let size = length-code_of_instrs (instructions values) in
-    let body = bytes_of-append (map write values) (Return Ret ∷ []) in
+    let body = bytes_of-append (map write values) (Ret FromCall ∷ []) in
     let writes = bytes_of_writes values in
     omega arith
 

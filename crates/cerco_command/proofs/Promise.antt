@@ -12,9 +12,9 @@ use Rattle.cerco_traces.specs.Headline.{Headline}
 use Rattle.cerco_traces.proofs.Simulation.{joined, one_step}
 use Rattle.cerco_traces.proofs.HeadlineProofs.{steps_of}
 use Rattle.annotate.specs.Numbers.{numbers, cost_at, event_cost, start_cost_in, label_cost_in}
-use Rattle.mcs51_isa.specs.declared.instr.Instr.TheVariants.{Nop, Long, Return, Sjmp, MovDirectImmediate}
+use Rattle.mcs51_isa.specs.declared.instr.Instr.TheVariants.{Nop, Long, Ret, Sjmp, MovDirectImmediate}
 use Rattle.mcs51_isa.specs.declared.instr.LongJump.TheVariants.{Lcall}
-use Rattle.mcs51_isa.specs.declared.instr.ReturnKind.TheVariants.{Ret}
+use Rattle.mcs51_isa.specs.declared.instr.ReturnKind.TheVariants.{FromCall}
 use Rattle.sim51.specs.State.{Core, reset, reset_core}
 use Rattle.sim51.specs.Locations.{called_from, popped}
 use Rattle.sim51.specs.Step.{Goes, instr_at, label_at}
@@ -61,13 +61,13 @@ module _ (code : List ℕ) where
     iram : state.state.core.iram ≡ r.state.core.iram
     sp : state.state.core.sp ≡ r.state.core.sp
     low : 9 ≤ state.state.pc
-    behind : instr_at code state.state.pc ≡ Some (Return Ret)
+    behind : instr_at code state.state.pc ≡ Some (Ret FromCall)
 
-  fits : (vs : List ℕ) (a : ℕ) → Stands code a (map write vs ++ Return Ret ∷ []) → a < 65536
+  fits : (vs : List ℕ) (a : ℕ) → Stands code a (map write vs ++ Ret FromCall ∷ []) → a < 65536
   fits [] a stands = let h = stands.1 in omega arith
   fits (v ∷ vs) a stands = let h = stands.1 in omega arith
 
-  all_writes : (vs : List ℕ) (r : Running) → 9 ≤ r.state.pc → Stands code r.state.pc (map write vs ++ Return Ret ∷ []) → Wrote vs r
+  all_writes : (vs : List ℕ) (r : Running) → 9 ≤ r.state.pc → Stands code r.state.pc (map write vs ++ Ret FromCall ∷ []) → Wrote vs r
   all_writes [] r low stands =
       record { state = r; run = here r; events = sym (append-nil r.events); cycles = omega arith; iram = refl; sp = refl; low = low; behind = stands.0 }
   all_writes (v ∷ vs) r low stands =
@@ -124,7 +124,7 @@ module _ (code : List ℕ) where
     returns script w =
         let r = w.state in
         let core = r.state.core in
-        let goes = step_goes code labels r.state (Return Ret) w.behind refl in
+        let goes = step_goes code labels r.state (Ret FromCall) w.behind refl in
         let pc : 256 * slice_index core.iram core.sp + slice_index core.iram ((core.sp + 255) % 256) ≡ 6 =
         ap (λ (ram : List ℕ). 256 * slice_index ram core.sp + slice_index ram ((core.sp + 255) % 256)) w.iram
         ∙ ap (λ n. 256 * slice_index (core_at_main script).iram n + slice_index (core_at_main script).iram ((n + 255) % 256)) w.sp in

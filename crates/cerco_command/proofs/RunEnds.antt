@@ -2,10 +2,11 @@
 use Rattle.std.proofs.Common.{◌≡◌, ℕ, List, sym, ap, subst, inl, inr, ◌⊎◌}
 use Rattle.cerco_base.specs.Outside.IoStates.{SinkState}
 use Rattle.sim51.specs.State.{State, reset}
-use Rattle.sim51.specs.Places.{LoadedMachine}
+use Rattle.sim51.specs.State.{LoadedMachine}
+use Rattle.sim51.specs.Runs.{setup_of, state_after, step_after}
 use Rattle.cerco_command.specs.Answers.{Answers}
 use Rattle.cerco_command.specs.Inputs.{NoneTooLong, AreObject}
-use Rattle.cerco_command.specs.Running.{setup_of, state_after, step_after, RunsTo, RunTexts, PrintsRun, with_names, CannotLoad, RunMeansFor}
+use Rattle.cerco_command.specs.Running.{RunsTo, RunTexts, PrintsRun, with_names, CannotLoad, RunMeansFor}
 use Rattle.cerco_command.specs.Words.{RunRequest}
 use Rattle.cerco_command.specs.declared.status.Status.{Status}
 use Rattle.cerco_command.specs.declared.status.Status.TheVariants.{Done, BadInput, Reserved, NoMemory}

@@ -5,8 +5,8 @@ use Rattle.std.specs.List.{flat_map}
 use Rattle.cerco_traces.specs.Headline.{after}
 use Rattle.sim51.specs.State.{State}
 use Rattle.sim51.specs.Step.{Moved, Halts, Reserved, Goes, step}
-use Rattle.sim51.specs.Runs.{Running, object, advanced}
-use Rattle.cerco_command.specs.Running.{Setup, TimedEvent, state_after, step_after, trace, GoesOn, Stops, RunsTo}
+use Rattle.sim51.specs.Runs.{Running, object, advanced, Setup, TimedEvent, state_after, step_after, trace}
+use Rattle.cerco_command.specs.Running.{GoesOn, Stops, RunsTo}
 use Rattle.cerco_command.specs.Messages.{event_line}
 use Rattle.cerco_command.specs.Once.{ReachesReserved, StopsOnce}
 use Rattle.cerco_command.specs.declared.status.Status.{Status}

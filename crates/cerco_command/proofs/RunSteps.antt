@@ -16,11 +16,11 @@ use Rattle.mcs51_isa.specs.Table.{cycles_of}
 use Rattle.sim51.specs.declared.events.Events.{Events}
 use Rattle.sim51.specs.State.{State, reset}
 use Rattle.sim51.specs.Step.{Moved, Halts, Reserved, Goes, instr_at, halts, made, moved_by, step}
-use Rattle.sim51.specs.Runs.{Running, object, events_of, advanced}
-use Rattle.sim51.specs.Places.{LoadedMachine}
+use Rattle.sim51.specs.Runs.{Running, object, events_of, advanced, Setup, setup_of, TimedEvent, made_by, state_after, step_after, trace}
+use Rattle.sim51.specs.State.{LoadedMachine}
 use Rattle.cerco_command.specs.Answers.{Says, Answers}
 use Rattle.cerco_command.specs.Messages.{event_line, event_lines, end_line, stop_line, reserved_line}
-use Rattle.cerco_command.specs.Running.{Setup, setup_of, TimedEvent, made_by, state_after, step_after, trace, GoesOn, Stops, RunsTo}
+use Rattle.cerco_command.specs.Running.{GoesOn, Stops, RunsTo}
 use Rattle.cerco_command.specs.Stages.{PutsFront, StepPrinted}
 use Rattle.cerco_command.specs.Status.{status_of}
 use Rattle.cerco_command.specs.declared.status.Status.{Status}

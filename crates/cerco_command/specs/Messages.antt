@@ -5,12 +5,12 @@ use Rattle.std.specs.List.{flat_map}
 use Rattle.cerco_base.specs.declared.events.Port.{Port}
 use Rattle.cerco_base.specs.declared.events.Event.{Event}
 use Rattle.cerco_base.specs.declared.events.Event.TheVariants.{Label, Read, Write}
-use Rattle.mcs51_isa.specs.Listing.{hex_word}
+use Rattle.cerco_base.specs.HexDigits.{hex_word}
 use Rattle.object_hex.specs.declared.reading.faults.HexFault.{HexFault}
 use Rattle.object_hex.specs.declared.reading.faults.HexKind.{HexKind}
 use Rattle.object_hex.specs.declared.reading.faults.HexKind.TheVariants.{Form, Sum, «Type», Upper, End, Range, Twice, After, NoEnd}
 use Rattle.object_hex.specs.declared.reading.faults.MapFault.{MapFault}
-use Rattle.sim51.specs.Locations.{port_number}
+use Rattle.cerco_base.specs.Ports.{port_number}
 
 -- a word of the program's own, and what it is about
 abbrev pub line_about : List ℕ → List ℕ → List ℕ

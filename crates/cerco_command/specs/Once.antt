@@ -3,7 +3,8 @@
 use Rattle.std.specs.Prelude.{◌≡◌, ℕ, ◌<◌, List, IsTrue}
 use Rattle.cerco_base.specs.Outside.IoStates.{FilesState}
 use Rattle.sim51.specs.Step.{Reserved}
-use Rattle.cerco_command.specs.Running.{Setup, state_after, step_after, RunsTo}
+use Rattle.sim51.specs.Runs.{Setup, state_after, step_after}
+use Rattle.cerco_command.specs.Running.{RunsTo}
 use Rattle.cerco_command.specs.declared.status.Status.{Status}
 use Rattle.cerco_command.specs.declared.status.Status.TheVariants as Is
 

@@ -1,9 +1,9 @@
 -- The object of a program of port writes (Intel, MCS-51 instruction set), and what it costs.
 use Rattle.std.specs.Prelude.{ℕ, List, [], ◌∷◌, ◌++◌, map, sum_by}
 use Rattle.mcs51_isa.specs.declared.instr.Instr.{Instr}
-use Rattle.mcs51_isa.specs.declared.instr.Instr.TheVariants.{Nop, Long, Return, Sjmp, MovDirectImmediate}
+use Rattle.mcs51_isa.specs.declared.instr.Instr.TheVariants.{Nop, Long, Ret, Sjmp, MovDirectImmediate}
 use Rattle.mcs51_isa.specs.declared.instr.LongJump.TheVariants.{Lcall}
-use Rattle.mcs51_isa.specs.declared.instr.ReturnKind.TheVariants.{Ret}
+use Rattle.mcs51_isa.specs.declared.instr.ReturnKind.TheVariants.{FromCall}
 use Rattle.mcs51_isa.specs.Table.{cycles_of}
 use Rattle.sim51.specs.Placed.{code_of_instrs}
 use Rattle.clight_syntax.specs.Annotations.{Costs}
@@ -22,7 +22,7 @@ write value = MovDirectImmediate 0x90 value
 
 -- `main`, whose label is the first instruction
 abbrev pub body : List ℕ → List Instr
-body values = Nop ∷ (map write values ++ Return Ret ∷ [])
+body values = Nop ∷ (map write values ++ Ret FromCall ∷ [])
 
 -- all instructions, from address 0 on
 abbrev pub instructions : List ℕ → List Instr

@@ -7,8 +7,8 @@ use Rattle.cerco_base.specs.Outside.IoStates.{FilesState, SameFiles}
 use Rattle.cerco_traces.specs.Headline.{after}
 use Rattle.sim51.specs.State.{State}
 use Rattle.sim51.specs.Step.{Moved, Halts, Reserved, Goes, step}
-use Rattle.sim51.specs.Runs.{object, events_of}
-use Rattle.sim51.specs.Places.{LoadedMachine}
+use Rattle.sim51.specs.Runs.{object, events_of, Setup, setup_of, state_after, step_after, trace}
+use Rattle.sim51.specs.State.{LoadedMachine}
 use Rattle.cerco_command.specs.Answers.{NamedText}
 use Rattle.cerco_command.specs.Messages.{event_line, end_line, stop_line, reserved_line}
 use Rattle.cerco_command.specs.Inputs.{CannotRead, HasText, NoneTooLong, SaysTooLong, SaysBadHex, SaysBadMap, AreObject}
@@ -17,35 +17,6 @@ use Rattle.cerco_command.specs.Words.{RunRequest}
 use Rattle.cerco_command.specs.declared.running.Inputs.{Inputs}
 use Rattle.cerco_command.specs.declared.status.Status.{Status}
 use Rattle.cerco_command.specs.declared.status.Status.TheVariants as Is
-
--- an event and the cycles before the instruction that makes it
-abbrev pub TimedEvent : Type 0
-TimedEvent = ℕ × Event
-
--- the events that a step makes
-abbrev pub made_by : Moved → List Event
-made_by Halts = []
-made_by Reserved = []
-made_by (Goes events next) = events_of events
-
--- a machine's code, the addresses of its labels, and the bytes that its ports' pins show
-pub record Setup : Type 0 where
-  pub code : List ℕ
-  pub labels : List ℕ
-  pub script : List ℕ
-
--- the state after k steps from reset
-unfoldable pub state_after : Setup → ℕ → State
-state_after m k = (after (object m.code m.labels) k ((object m.code m.labels).start m.script)).state
-
--- the step from there
-abbrev pub step_after : Setup → ℕ → Moved
-step_after m k = step m.code m.labels (state_after m k)
-
--- the events of the first k steps, oldest first
-unfoldable pub trace : Setup → ℕ → List TimedEvent
-trace m zero = []
-trace m (suc k) = trace m k ++ map (λ event. ((state_after m k).cycles, event)) (made_by (step_after m k))
 
 -- the machine goes on: it makes a step, and has run for fewer cycles than the limit
 abbrev pub GoesOn : ℕ → State → Moved → Type 0
@@ -69,10 +40,6 @@ pub record RunsTo (m : Setup) (limit : ℕ) (status : Status) (text : List ℕ) 
   pub last : List ℕ
   pub stops : Stops limit (state_after m steps) (step_after m steps) status last
   pub printed : text ≡ flat_map (λ timed. event_line timed.0 timed.1) (trace m steps) ++ last
-
--- a machine's code, labels and script
-abbrev pub setup_of : LoadedMachine → Setup
-setup_of m = record { code = m.code; labels = m.labels; script = m.state.core.script }
 
 -- the texts of the three files
 pub record RunTexts : Type 0 where

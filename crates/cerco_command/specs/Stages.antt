@@ -12,7 +12,7 @@ use Rattle.mcs51_isa.specs.Listing.{line_of}
 use Rattle.sim51.specs.declared.events.Events.{Events}
 use Rattle.sim51.specs.State.{State}
 use Rattle.sim51.specs.Step.{Moved, Goes, step}
-use Rattle.sim51.specs.Places.{LoadedMachine}
+use Rattle.sim51.specs.State.{LoadedMachine}
 use Rattle.sim51.specs.Runs.{events_of}
 use Rattle.cerco_command.specs.Words.{BuildFiles}
 use Rattle.cerco_command.specs.Answers.{NamedText, AreWritten, ArePartlyWritten}

@@ -25,7 +25,7 @@ const CALL_MAIN: Instr = Instr::Long(LongJump::Lcall, MAIN);
 
 const HALT: Instr = Instr::Sjmp(0xFE);
 
-const RETURN: Instr = Instr::Return(ReturnKind::Ret);
+const RETURN: Instr = Instr::Ret(ReturnKind::FromCall);
 
 /// An object with its labels, and what it costs, in machine cycles.
 #[derive(Drop)]

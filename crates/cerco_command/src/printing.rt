@@ -2,13 +2,11 @@
 ghost use Rattle.std.specs.Prelude.{◌≡◌, ◌<◌, ◌++◌, ◌∷◌, [], codes, decimal, length, IfOk, IfErr};
 ghost use Rattle.cerco_base.specs.Outside.IoCalls.{PutsText};
 ghost use Rattle.cerco_base.specs.Outside.InMemory.{sound_sink_state};
-ghost use Rattle.mcs51_isa.specs.Listing.{hex_digit, hex_word};
-ghost use Rattle.sim51.specs.Locations.{port_number};
 ghost use Rattle.sim51.specs.Runs.{events_of, label_events};
 ghost use Rattle.cerco_command.specs.Messages.{line_about, reserved_line, port_lines, event_lines};
 ghost use Rattle.cerco_command.specs.Stages.{PutsFront};
 
-use cerco_base::{IoFault, Label, Port, Sink, SoundSink, put_all};
+use cerco_base::{IoFault, Label, Port, Sink, SoundSink, hex_word, put_all};
 use itoa::Buffer;
 use sim51::Events;
 use std::alloc::Global;
@@ -32,26 +30,6 @@ pub fn put_count<O: Sink>(word: &str, number: u64, out: &mut O) -> Result<(), Io
     put_all(out, b"\n")
 }
 
-fn hex_digit(n: u16) -> u8
-    requires { n < 16 }
-    ensures { result ≡ hex_digit n }
-{
-    b"0123456789ABCDEF"[n as usize]
-}
-
-fn hex_word(address: u16) -> [u8; 4]
-    ensures { result ≡ hex_word address }
-{
-    let high = address / 256;
-    let low = address % 256;
-    [
-        hex_digit(high / 16),
-        hex_digit(high % 16),
-        hex_digit(low / 16),
-        hex_digit(low % 16),
-    ]
-}
-
 /// Puts the line of the reserved opcode at an address.
 pub fn put_reserved<O: Sink>(address: u16, out: &mut O) -> Result<(), IoFault>
     ensures { PutsText (O.state out.old) (O.state out.new) (reserved_line address) result }
@@ -72,18 +50,6 @@ fn put_label<O: Sink>(label: Option<Label>, cycles: u64, out: &mut O) -> Result<
     put_count(" ", cycles, out)
 }
 
-// The number of a port.
-fn number_of(port: Port) -> u64
-    ensures { result ≡ port_number port }
-{
-    match port {
-        Port::P0 => 0,
-        Port::P1 => 1,
-        Port::P2 => 2,
-        Port::P3 => 3,
-    }
-}
-
 // Puts the line of a byte at a port, if there is one.
 fn put_port<O: Sink>(
     letter: &str,
@@ -96,7 +62,7 @@ fn put_port<O: Sink>(
     let Some((port, byte)) = at else {
         return Ok(());
     };
-    put_number(letter, number_of(port), out)?;
+    put_number(letter, port.number() as u64, out)?;
     put_number(" ", byte as u64, out)?;
     put_count(" ", cycles, out)
 }

@@ -3,9 +3,10 @@ ghost use Rattle.std.specs.Prelude.{◌≡◌, ℕ, ◌≤◌, ◌<◌, ◌^◌,
 ghost use Rattle.cerco_base.specs.Outside.IoStates.{SameFiles};
 ghost use Rattle.cerco_base.specs.Outside.InMemory.{sound_sink_state};
 ghost use Rattle.sim51.specs.State.{reset};
+ghost use Rattle.sim51.specs.Runs.{Setup, setup_of};
 ghost use Rattle.cerco_command.specs.Answers.{Answers};
 ghost use Rattle.cerco_command.specs.Inputs.{CannotRead, longest, NoneTooLong, AreObject};
-ghost use Rattle.cerco_command.specs.Running.{Setup, names_of, texts_of, with_names, AreTextsOf, setup_of, RunsTo, RunMeans, RunMeansFor, CannotLoad};
+ghost use Rattle.cerco_command.specs.Running.{names_of, texts_of, with_names, AreTextsOf, RunsTo, RunMeans, RunMeansFor, CannotLoad};
 ghost use Rattle.cerco_command.specs.Once.{StopsOnce};
 ghost use Rattle.cerco_command.specs.Stages.{StepPrinted};
 ghost use Rattle.cerco_command.specs.Words.{run_of_words};

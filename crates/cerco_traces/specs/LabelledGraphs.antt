@@ -60,3 +60,7 @@ pub record SoundlyLabelled (G : FlowGraph) (entry : ℕ) : Type 0 where
 -- the graph with a plain node between the entry, a label, and the node after it
 unfoldable pub inserted : FlowGraph → ℕ → ℕ → ℕ → FlowGraph
 inserted G entry new next = λ p. if nat_eq p entry then Some (LabelNode (Some new)) else (if nat_eq p new then Some (PlainNode (Some next)) else G p)
+
+-- Every path from the node on comes to a label or to an end.
+pub data IsBounded (G : FlowGraph) : ℕ → Type 0 where
+  bounded : (p : ℕ) → ((q : ℕ) → (IsLabelNode (G p) → ⊥) → LeadsTo (G p) q → IsBounded G q) → IsBounded G p

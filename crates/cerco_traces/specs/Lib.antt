@@ -2,3 +2,4 @@ pub mod Systems
 pub mod Preservation
 pub mod Headline
 pub mod LabelledGraphs
+pub mod Worlds

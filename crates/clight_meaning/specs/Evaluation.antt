@@ -1,7 +1,7 @@
 -- What an evaluator has left to do, as a list of work with the newest first, and what it does with the first of it. The list stands
 -- for what goes on after each of its parts, and so for the rest of a run.
 use Rattle.std.specs.Prelude.{ℕ, Bool, true, false, not, List, [], ◌∷◌, Option, Some, None, Result, Ok, Err, slice_get}
-use Rattle.cerco_base.specs.Events.{Ended}
+use Rattle.cerco_base.specs.Events.{Ended, next_reading}
 use Rattle.cerco_traces.specs.Preservation.{Stops, Faults}
 use Rattle.cerco_base.specs.declared.events.Event.{Event}
 use Rattle.cerco_base.specs.declared.events.Event.TheVariants as event
@@ -18,7 +18,7 @@ use Rattle.clight_values.specs.declared.value.Value.{Value}
 use Rattle.clight_values.specs.declared.value.Value.TheVariants as v
 use Rattle.clight_values.specs.Memory.{Answer, initial, Frame, State}
 use Rattle.clight_meaning.specs.Expressions.{position, value}
-use Rattle.clight_meaning.specs.Meaning.{Rest, only, passes, truth_of, test, assigned, assigned_if_any, assigned_to, converted_answer, first_of, after_reading, argument_list, argument_values, first_parameter, entered, returned, prepared, result_type, taken, with_state, Goes, loop_goes, until, next_of_for, run, body_goes, calls}
+use Rattle.clight_meaning.specs.Meaning.{Rest, only, passes, truth_of, test, assigned, assigned_if_any, assigned_to, converted_answer, after_reading, argument_list, argument_values, first_parameter, entered, returned, prepared, result_type, taken, with_state, Goes, loop_goes, until, next_of_for, run, body_goes, calls}
 
 -- ---- work
 
@@ -200,8 +200,8 @@ ran p (Empty a) ws st = Silent ws st
 ran p (Block l body r) ws st = Silent (All (listed body []) ∷ ws) st
 ran p (Assign a q) ws st = quietly ws (assigned p a st)
 ran p (ReadPort x q port a) ws st =
-    after_read (first_of st.script) ws
-    (assigned_to (type_at x) (position p x (after_reading st)) unsigned_char (Ok (v.Integer (first_of st.script))) (after_reading st))
+    after_read (next_reading st.script) ws
+    (assigned_to (type_at x) (position p x (after_reading st)) unsigned_char (Ok (v.Integer (next_reading st.script))) (after_reading st))
 ran p (WritePort port q e a) ws st = written ws st (converted_answer (type_at e) unsigned_char (value p e st))
 ran p (CallOf c a back) ws st = called p c back ws st (argument_values p (argument_list c.arguments) (first_parameter p c.function) st)
 ran p (If c one arm other) ws st = Silent (Check c.condition ∷ Wait (Chooser (If c one arm other)) ∷ ws) st

@@ -2,7 +2,7 @@
 -- told of its run on a port script, for each budget of labels. A run passes at most so many labels: it stops where the next one is
 -- due, or `main` returns, or it meets a fault. A statement is given what goes on after it, by the way in which it is left.
 use Rattle.std.specs.Prelude.{ℕ, zero, suc, ◌+◌, Bool, true, false, List, [], ◌∷◌, ◌++◌, length, take, drop, map, Option, Some, None, Result, Ok, Err, if◌then◌else◌, slice_get}
-use Rattle.cerco_base.specs.Events.{Stopped, Ended}
+use Rattle.cerco_base.specs.Events.{Stopped, Ended, next_reading}
 use Rattle.cerco_traces.specs.Preservation.{Outcome, Stops, Faults, Source, and_then}
 use Rattle.cerco_base.specs.declared.events.Event.{Event}
 use Rattle.cerco_base.specs.declared.events.Event.TheVariants as event
@@ -129,10 +129,6 @@ abbrev pub assigned_variable : {L : Type 0} → TypedProgram L → ℕ → CType
 assigned_variable p n S w st = assigned_to (variable_type p n) (Ok (variable_position p n st.frame)) S w st
 
 -- ---- ports
-
-abbrev pub first_of : List ℕ → ℕ
-first_of [] = 255
-first_of (b ∷ bs) = b
 
 -- a reading takes the script's next byte, 255 behind its end
 abbrev pub after_reading : State → State
@@ -269,8 +265,8 @@ abbrev mutual
   run p calls (Block left body right) k st = run_all p calls body k st
   run p calls (Assign a semicolon) k st = with_state (assigned p a st) k.next
   run p calls (ReadPort target equals port semicolon) k st =
-      says (event.Read P1 (first_of st.script))
-      (with_state (assigned_to (type_at target) (position p target (after_reading st)) unsigned_char (Ok (v.Integer (first_of st.script))) (after_reading st)) k.next)
+      says (event.Read P1 (next_reading st.script))
+      (with_state (assigned_to (type_at target) (position p target (after_reading st)) unsigned_char (Ok (v.Integer (next_reading st.script))) (after_reading st)) k.next)
   run p calls (WritePort port equals e semicolon) k st =
       with_byte (converted_answer (type_at e) unsigned_char (value p e st)) (λ b. says (event.Write P1 b) (k.next st))
   run p calls (CallOf c semicolon back) k st =

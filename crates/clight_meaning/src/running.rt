@@ -1,6 +1,7 @@
 //! A run, step by step, with what is left to do as a list of work.
 ghost use Rattle.std.specs.Prelude.{◌≡◌, ℕ, ◌∷◌, IfOk, MatchOption, Ok, OnOk, Result, if◌then◌else◌, List, MatchResult, map, option_copied, option_map, slice_get};
 ghost use Rattle.c_types.specs.Conversions.{unsigned_char};
+ghost use Rattle.cerco_base.specs.Events.{next_reading};
 ghost use Rattle.c_types.specs.Types.{type_of};
 ghost use Rattle.clight_syntax.specs.TypedTrees.{type_at};
 ghost use Rattle.clight_syntax.specs.Code.TypedViews.{assignment_of, call_of, cond_of, expr_of, function_of, program_of, stmt_of};
@@ -167,7 +168,7 @@ impl<'a> Running<'a> {
 
     /// Reads the port into a place.
     fn read(&mut self, target: &'a Expr) -> Result<Option<Turn>, NoMemory>
-        ensures { IfOk result (λ t. Does (n.after_read (e.first_of (state_held self.old.state).script) (works_held self.old.work.items) (e.assigned_to (type_at (expr_of target.now)) (x.position (program_of self.old.program.now) (expr_of target.now) (e.after_reading (state_held self.old.state))) unsigned_char (Ok (Value.Integer (e.first_of (state_held self.old.state).script))) (e.after_reading (state_held self.old.state)))) t self.old self.new) }
+        ensures { IfOk result (λ t. Does (n.after_read (next_reading (state_held self.old.state).script) (works_held self.old.work.items) (e.assigned_to (type_at (expr_of target.now)) (x.position (program_of self.old.program.now) (expr_of target.now) (e.after_reading (state_held self.old.state))) unsigned_char (Ok (Value.Integer (next_reading (state_held self.old.state).script))) (e.after_reading (state_held self.old.state)))) t self.old self.new) }
     {
         let byte = self.state.read();
         let position = self.state.position(self.program, target);

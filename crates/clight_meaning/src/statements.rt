@@ -1,5 +1,6 @@
 //! What statements do to the state of a run.
 ghost use Rattle.std.specs.Prelude.{◌≡◌, ℕ, drop, length, take, slice_get, MatchResult, Ok};
+ghost use Rattle.cerco_base.specs.Events.{next_reading};
 ghost use Rattle.c_types.specs.Types.{type_of};
 ghost use Rattle.clight_syntax.specs.Code.TypedViews.{assignment_of, expr_of, program_of};
 ghost use Rattle.clight_values.specs.Memory as m;
@@ -143,7 +144,7 @@ impl<'a> State<'a> {
 
     /// Takes the next reading of a port.
     pub(crate) fn read(&mut self) -> u8
-        ensures value { result ≡ n.first_of (state_held self.old).script }
+        ensures value { result ≡ next_reading (state_held self.old).script }
         ensures state { state_held self.new ≡ n.after_reading (state_held self.old) }
     {
         match self.script {

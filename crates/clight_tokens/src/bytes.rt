@@ -65,7 +65,7 @@ pub fn is_pair(pair: Pair, a: u8, b: u8) -> bool
 }
 
 /// Whether it is a punctuator.
-#[tactic(auto, unfolding(clight_source::specs::Lexemes::is_punctuator))]
+#[tactic(auto, unfolding(crate::specs::Lexemes::is_punctuator))]
 pub fn is_single(b: u8) -> bool
     ensures { result ≡ s.is_punctuator (b ∷ []) }
 {
@@ -78,7 +78,7 @@ pub fn is_single(b: u8) -> bool
 }
 
 /// Whether these bytes are a punctuator.
-#[tactic(auto, unfolding(clight_source::specs::Lexemes::is_punctuator))]
+#[tactic(auto, unfolding(crate::specs::Lexemes::is_punctuator))]
 pub fn is_double(a: u8, b: u8) -> bool
     ensures { result ≡ s.is_punctuator (a ∷ b ∷ []) }
 {
@@ -95,7 +95,7 @@ pub fn is_double(a: u8, b: u8) -> bool
 }
 
 /// Whether these bytes are a punctuator.
-#[tactic(auto, unfolding(clight_source::specs::Lexemes::is_punctuator))]
+#[tactic(auto, unfolding(crate::specs::Lexemes::is_punctuator))]
 pub fn is_triple(a: u8, b: u8, c: u8) -> bool
     ensures { result ≡ s.is_punctuator (a ∷ b ∷ c ∷ []) }
 {

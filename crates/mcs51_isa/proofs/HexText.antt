@@ -2,7 +2,7 @@
 use Rattle.std.proofs.Common.{◌≡◌, ℕ, ◌+◌, ◌*◌, ◌<◌, ◌≤◌, List, [], ◌∷◌, ◌++◌, length, take, get_or, refl, ap, sym, ◌∙◌, arith}
 use Rattle.std.specs.List.{flat_map}
 use Rattle.std.proofs.lemmas.List.{take_more, flat_map_more, length-append, length-take-le}
-use Rattle.mcs51_isa.specs.Listing.{hex_byte}
+use Rattle.cerco_base.specs.HexDigits.{hex_byte}
 
 pub length-hex_bytes : (bytes : List ℕ) → length (flat_map hex_byte bytes) ≡ 2 * length bytes
 length-hex_bytes [] = refl

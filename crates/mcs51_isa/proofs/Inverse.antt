@@ -1,14 +1,14 @@
 -- Decoding and encoding are inverse.
 use Rattle.std.proofs.Common.{◌≡◌, ℕ, zero, suc, ◌+◌, ◌*◌, ◌/◌, ◌%◌, ◌<◌, List, [], ◌∷◌, ◌++◌, get_or, length, take, Option, Some, None, refl, ap, ap₂, arith, subst, sym, ◌∙◌}
 use Rattle.mcs51_isa.specs.declared.instr.Instr.{Instr}
-use Rattle.mcs51_isa.specs.declared.instr.Instr.TheVariants.{Nop, Ajmp, Acall, Long, Return, RotateAcc, StepAcc, StepDirect, StepIndirect, StepRegister, BranchBit, BranchFlag, Sjmp, ArithImmediate, ArithDirect, ArithIndirect, ArithRegister, LogicDirectAcc, LogicDirectImmediate, LogicImmediate, LogicDirect, LogicIndirect, LogicRegister, CarryLogic, JmpIndirect, MovAccImmediate, MovDirectImmediate, MovIndirectImmediate, MovRegisterImmediate, Movc, Multiplier, MovDirectDirect, MovDirectIndirect, MovDirectRegister, MovDptr, MovBitCarry, MovCarryBit, IncDptr, MovIndirectDirect, MovRegisterDirect, ChangeBit, ChangeCarry, CjneImmediate, CjneDirect, CjneIndirect, CjneRegister, Stack, Adjust, XchDirect, XchIndirect, XchRegister, Xchd, DjnzDirect, DjnzRegister, MovxDptr, MovxIndirect, WholeAcc, MovDirect, MovIndirect, MovRegister}
+use Rattle.mcs51_isa.specs.declared.instr.Instr.TheVariants.{Nop, Ajmp, Acall, Long, Ret, RotateAcc, StepAcc, StepDirect, StepIndirect, StepRegister, BranchBit, BranchFlag, Sjmp, ArithImmediate, ArithDirect, ArithIndirect, ArithRegister, LogicDirectAcc, LogicDirectImmediate, LogicImmediate, LogicDirect, LogicIndirect, LogicRegister, CarryLogic, JmpIndirect, MovAccImmediate, MovDirectImmediate, MovIndirectImmediate, MovRegisterImmediate, Movc, Multiplier, MovDirectDirect, MovDirectIndirect, MovDirectRegister, MovDptr, MovBitCarry, MovCarryBit, IncDptr, MovIndirectDirect, MovRegisterDirect, ChangeBit, ChangeCarry, CjneImmediate, CjneDirect, CjneIndirect, CjneRegister, Stack, Adjust, XchDirect, XchIndirect, XchRegister, Xchd, DjnzDirect, DjnzRegister, MovxDptr, MovxIndirect, WholeAcc, MovDirect, MovIndirect, MovRegister}
 use Rattle.mcs51_isa.specs.declared.instr.LongJump.TheVariants.{Ljmp, Lcall}
-use Rattle.mcs51_isa.specs.declared.instr.ReturnKind.TheVariants.{Ret, Reti}
+use Rattle.mcs51_isa.specs.declared.instr.ReturnKind.TheVariants.{FromCall, FromInterrupt}
 use Rattle.mcs51_isa.specs.declared.instr.Rotate.TheVariants.{Rr, Rrc, Rl, Rlc}
-use Rattle.mcs51_isa.specs.declared.instr.Step.TheVariants.{Inc, Dec}
+use Rattle.mcs51_isa.specs.declared.instr.ByOne.TheVariants.{Inc, Dec}
 use Rattle.mcs51_isa.specs.declared.instr.BitTest.TheVariants.{Jbc, Jb, Jnb}
 use Rattle.mcs51_isa.specs.declared.instr.FlagTest.TheVariants.{Jc, Jnc, Jz, Jnz}
-use Rattle.mcs51_isa.specs.declared.instr.Arith.TheVariants.{Add, Addc, Subb}
+use Rattle.mcs51_isa.specs.declared.instr.SumOp.TheVariants.{Add, Addc, Subb}
 use Rattle.mcs51_isa.specs.declared.instr.Logic.TheVariants.{Orl, Anl, Xrl}
 use Rattle.mcs51_isa.specs.declared.instr.CarryOp.TheVariants.{OrlBit, AnlBit, OrlNotBit, AnlNotBit}
 use Rattle.mcs51_isa.specs.declared.instr.TableBase.TheVariants.{Pc, Dptr}
@@ -16,7 +16,7 @@ use Rattle.mcs51_isa.specs.declared.instr.MulDiv.TheVariants.{DivAb, MulAb}
 use Rattle.mcs51_isa.specs.declared.instr.BitChange.TheVariants.{Cpl, Clr, Setb}
 use Rattle.mcs51_isa.specs.declared.instr.StackOp.TheVariants.{Push, Pop}
 use Rattle.mcs51_isa.specs.declared.instr.Adjustment.TheVariants.{Swap, Da}
-use Rattle.mcs51_isa.specs.declared.instr.Transfer.TheVariants.{Load, Store}
+use Rattle.mcs51_isa.specs.declared.instr.Move.TheVariants.{IntoAcc, FromAcc}
 use Rattle.mcs51_isa.specs.declared.instr.Whole.TheVariants.{ClearAcc, ComplementAcc}
 use Rattle.mcs51_isa.specs.declared.operands.Addr11.{Addr11}
 use Rattle.mcs51_isa.specs.Table.{encode_of}
@@ -41,8 +41,8 @@ decode_encode (Acall a) x y =
     refl refl refl refl refl refl refl refl a.page
 decode_encode (Long Ljmp w) x y = ap (λ q. Some (Long Ljmp q)) (word_parts w)
 decode_encode (Long Lcall w) x y = ap (λ q. Some (Long Lcall q)) (word_parts w)
-decode_encode (Return Ret) x y = refl
-decode_encode (Return Reti) x y = refl
+decode_encode (Ret FromCall) x y = refl
+decode_encode (Ret FromInterrupt) x y = refl
 decode_encode (RotateAcc Rr) x y = refl
 decode_encode (RotateAcc Rrc) x y = refl
 decode_encode (RotateAcc Rl) x y = refl
@@ -135,18 +135,18 @@ decode_encode (XchRegister n) x y = each_reg (λ q. DecodesBack (XchRegister q) 
 decode_encode (Xchd i) x y = each_ind (λ q. DecodesBack (Xchd q) x y) refl refl i
 decode_encode (DjnzDirect d r) x y = refl
 decode_encode (DjnzRegister n r) x y = each_reg (λ q. DecodesBack (DjnzRegister q r) x y) refl refl refl refl refl refl refl refl n
-decode_encode (MovxDptr Load) x y = refl
-decode_encode (MovxDptr Store) x y = refl
-decode_encode (MovxIndirect Load i) x y = each_ind (λ q. DecodesBack (MovxIndirect Load q) x y) refl refl i
-decode_encode (MovxIndirect Store i) x y = each_ind (λ q. DecodesBack (MovxIndirect Store q) x y) refl refl i
+decode_encode (MovxDptr IntoAcc) x y = refl
+decode_encode (MovxDptr FromAcc) x y = refl
+decode_encode (MovxIndirect IntoAcc i) x y = each_ind (λ q. DecodesBack (MovxIndirect IntoAcc q) x y) refl refl i
+decode_encode (MovxIndirect FromAcc i) x y = each_ind (λ q. DecodesBack (MovxIndirect FromAcc q) x y) refl refl i
 decode_encode (WholeAcc ClearAcc) x y = refl
 decode_encode (WholeAcc ComplementAcc) x y = refl
-decode_encode (MovDirect Load d) x y = refl
-decode_encode (MovDirect Store d) x y = refl
-decode_encode (MovIndirect Load i) x y = each_ind (λ q. DecodesBack (MovIndirect Load q) x y) refl refl i
-decode_encode (MovIndirect Store i) x y = each_ind (λ q. DecodesBack (MovIndirect Store q) x y) refl refl i
-decode_encode (MovRegister Load n) x y = each_reg (λ q. DecodesBack (MovRegister Load q) x y) refl refl refl refl refl refl refl refl n
-decode_encode (MovRegister Store n) x y = each_reg (λ q. DecodesBack (MovRegister Store q) x y) refl refl refl refl refl refl refl refl n
+decode_encode (MovDirect IntoAcc d) x y = refl
+decode_encode (MovDirect FromAcc d) x y = refl
+decode_encode (MovIndirect IntoAcc i) x y = each_ind (λ q. DecodesBack (MovIndirect IntoAcc q) x y) refl refl i
+decode_encode (MovIndirect FromAcc i) x y = each_ind (λ q. DecodesBack (MovIndirect FromAcc q) x y) refl refl i
+decode_encode (MovRegister IntoAcc n) x y = each_reg (λ q. DecodesBack (MovRegister IntoAcc q) x y) refl refl refl refl refl refl refl refl n
+decode_encode (MovRegister FromAcc n) x y = each_reg (λ q. DecodesBack (MovRegister FromAcc q) x y) refl refl refl refl refl refl refl refl n
 
 -- the bytes of what was decoded are the bytes that were read
 abbrev pub EncodesBack : ℕ → ℕ → ℕ → Option Instr → Type 0

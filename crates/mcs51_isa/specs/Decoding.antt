@@ -2,14 +2,14 @@
 -- behind it stand for. The first hexadecimal digit of an opcode is its row, the last one its column.
 use Rattle.std.specs.Prelude.{ℕ, ◌+◌, ◌*◌, ◌/◌, ◌%◌, ◌-◌, List, [], ◌∷◌, slice_index_or, Option, Some, None, nat_eq, nat_le, if◌then◌else◌, length}
 use Rattle.mcs51_isa.specs.declared.instr.Instr.{Instr}
-use Rattle.mcs51_isa.specs.declared.instr.Instr.TheVariants.{Nop, Ajmp, Acall, Long, Return, RotateAcc, StepAcc, StepDirect, StepIndirect, StepRegister, BranchBit, BranchFlag, Sjmp, ArithImmediate, ArithDirect, ArithIndirect, ArithRegister, LogicDirectAcc, LogicDirectImmediate, LogicImmediate, LogicDirect, LogicIndirect, LogicRegister, CarryLogic, JmpIndirect, MovAccImmediate, MovDirectImmediate, MovIndirectImmediate, MovRegisterImmediate, Movc, Multiplier, MovDirectDirect, MovDirectIndirect, MovDirectRegister, MovDptr, MovBitCarry, MovCarryBit, IncDptr, MovIndirectDirect, MovRegisterDirect, ChangeBit, ChangeCarry, CjneImmediate, CjneDirect, CjneIndirect, CjneRegister, Stack, Adjust, XchDirect, XchIndirect, XchRegister, Xchd, DjnzDirect, DjnzRegister, MovxDptr, MovxIndirect, WholeAcc, MovDirect, MovIndirect, MovRegister}
+use Rattle.mcs51_isa.specs.declared.instr.Instr.TheVariants.{Nop, Ajmp, Acall, Long, Ret, RotateAcc, StepAcc, StepDirect, StepIndirect, StepRegister, BranchBit, BranchFlag, Sjmp, ArithImmediate, ArithDirect, ArithIndirect, ArithRegister, LogicDirectAcc, LogicDirectImmediate, LogicImmediate, LogicDirect, LogicIndirect, LogicRegister, CarryLogic, JmpIndirect, MovAccImmediate, MovDirectImmediate, MovIndirectImmediate, MovRegisterImmediate, Movc, Multiplier, MovDirectDirect, MovDirectIndirect, MovDirectRegister, MovDptr, MovBitCarry, MovCarryBit, IncDptr, MovIndirectDirect, MovRegisterDirect, ChangeBit, ChangeCarry, CjneImmediate, CjneDirect, CjneIndirect, CjneRegister, Stack, Adjust, XchDirect, XchIndirect, XchRegister, Xchd, DjnzDirect, DjnzRegister, MovxDptr, MovxIndirect, WholeAcc, MovDirect, MovIndirect, MovRegister}
 use Rattle.mcs51_isa.specs.declared.instr.LongJump.TheVariants.{Ljmp, Lcall}
-use Rattle.mcs51_isa.specs.declared.instr.ReturnKind.TheVariants.{Ret, Reti}
+use Rattle.mcs51_isa.specs.declared.instr.ReturnKind.TheVariants.{FromCall, FromInterrupt}
 use Rattle.mcs51_isa.specs.declared.instr.Rotate.TheVariants.{Rr, Rrc, Rl, Rlc}
-use Rattle.mcs51_isa.specs.declared.instr.Step.TheVariants.{Inc, Dec}
+use Rattle.mcs51_isa.specs.declared.instr.ByOne.TheVariants.{Inc, Dec}
 use Rattle.mcs51_isa.specs.declared.instr.BitTest.TheVariants.{Jbc, Jb, Jnb}
 use Rattle.mcs51_isa.specs.declared.instr.FlagTest.TheVariants.{Jc, Jnc, Jz, Jnz}
-use Rattle.mcs51_isa.specs.declared.instr.Arith.TheVariants.{Add, Addc, Subb}
+use Rattle.mcs51_isa.specs.declared.instr.SumOp.TheVariants.{Add, Addc, Subb}
 use Rattle.mcs51_isa.specs.declared.instr.Logic.TheVariants.{Orl, Anl, Xrl}
 use Rattle.mcs51_isa.specs.declared.instr.CarryOp.TheVariants.{OrlBit, AnlBit, OrlNotBit, AnlNotBit}
 use Rattle.mcs51_isa.specs.declared.instr.TableBase.TheVariants.{Pc, Dptr}
@@ -17,7 +17,7 @@ use Rattle.mcs51_isa.specs.declared.instr.MulDiv.TheVariants.{DivAb, MulAb}
 use Rattle.mcs51_isa.specs.declared.instr.BitChange.TheVariants.{Cpl, Clr, Setb}
 use Rattle.mcs51_isa.specs.declared.instr.StackOp.TheVariants.{Push, Pop}
 use Rattle.mcs51_isa.specs.declared.instr.Adjustment.TheVariants.{Swap, Da}
-use Rattle.mcs51_isa.specs.declared.instr.Transfer.TheVariants.{Load, Store}
+use Rattle.mcs51_isa.specs.declared.instr.Move.TheVariants.{IntoAcc, FromAcc}
 use Rattle.mcs51_isa.specs.declared.instr.Whole.TheVariants.{ClearAcc, ComplementAcc}
 use Rattle.mcs51_isa.specs.declared.operands.Reg.{Reg}
 use Rattle.mcs51_isa.specs.declared.operands.Ind.{Ind}
@@ -49,8 +49,8 @@ column_0 =
     (λ x y. Some (CarryLogic AnlNotBit x)) ∷
     (λ x y. Some (Stack Push x)) ∷
     (λ x y. Some (Stack Pop x)) ∷
-    (λ x y. Some (MovxDptr Load)) ∷
-    (λ x y. Some (MovxDptr Store)) ∷
+    (λ x y. Some (MovxDptr IntoAcc)) ∷
+    (λ x y. Some (MovxDptr FromAcc)) ∷
     []
 
 -- the opcodes that end in 2
@@ -58,8 +58,8 @@ abbrev pub column_2 : List Form
 column_2 =
     (λ x y. Some (Long Ljmp (256 * x + y))) ∷
     (λ x y. Some (Long Lcall (256 * x + y))) ∷
-    (λ x y. Some (Return Ret)) ∷
-    (λ x y. Some (Return Reti)) ∷
+    (λ x y. Some (Ret FromCall)) ∷
+    (λ x y. Some (Ret FromInterrupt)) ∷
     (λ x y. Some (LogicDirectAcc Orl x)) ∷
     (λ x y. Some (LogicDirectAcc Anl x)) ∷
     (λ x y. Some (LogicDirectAcc Xrl x)) ∷
@@ -70,8 +70,8 @@ column_2 =
     (λ x y. Some (ChangeBit Cpl x)) ∷
     (λ x y. Some (ChangeBit Clr x)) ∷
     (λ x y. Some (ChangeBit Setb x)) ∷
-    (λ x y. Some (MovxIndirect Load At0)) ∷
-    (λ x y. Some (MovxIndirect Store At0)) ∷
+    (λ x y. Some (MovxIndirect IntoAcc At0)) ∷
+    (λ x y. Some (MovxIndirect FromAcc At0)) ∷
     []
 
 -- the opcodes that end in 3
@@ -91,8 +91,8 @@ column_3 =
     (λ x y. Some (ChangeCarry Cpl)) ∷
     (λ x y. Some (ChangeCarry Clr)) ∷
     (λ x y. Some (ChangeCarry Setb)) ∷
-    (λ x y. Some (MovxIndirect Load At1)) ∷
-    (λ x y. Some (MovxIndirect Store At1)) ∷
+    (λ x y. Some (MovxIndirect IntoAcc At1)) ∷
+    (λ x y. Some (MovxIndirect FromAcc At1)) ∷
     []
 
 -- the opcodes that end in 4
@@ -133,8 +133,8 @@ column_5 =
     (λ x y. Some (CjneDirect x y)) ∷
     (λ x y. Some (XchDirect x)) ∷
     (λ x y. Some (DjnzDirect x y)) ∷
-    (λ x y. Some (MovDirect Load x)) ∷
-    (λ x y. Some (MovDirect Store x)) ∷
+    (λ x y. Some (MovDirect IntoAcc x)) ∷
+    (λ x y. Some (MovDirect FromAcc x)) ∷
     []
 
 -- the opcodes that end in 6 and 7
@@ -154,8 +154,8 @@ column_indirect n =
     (λ x y. Some (CjneIndirect n x y)) ∷
     (λ x y. Some (XchIndirect n)) ∷
     (λ x y. Some (Xchd n)) ∷
-    (λ x y. Some (MovIndirect Load n)) ∷
-    (λ x y. Some (MovIndirect Store n)) ∷
+    (λ x y. Some (MovIndirect IntoAcc n)) ∷
+    (λ x y. Some (MovIndirect FromAcc n)) ∷
     []
 
 -- the opcodes that end in 8 to F
@@ -175,8 +175,8 @@ column_register n =
     (λ x y. Some (CjneRegister n x y)) ∷
     (λ x y. Some (XchRegister n)) ∷
     (λ x y. Some (DjnzRegister n x)) ∷
-    (λ x y. Some (MovRegister Load n)) ∷
-    (λ x y. Some (MovRegister Store n)) ∷
+    (λ x y. Some (MovRegister IntoAcc n)) ∷
+    (λ x y. Some (MovRegister FromAcc n)) ∷
     []
 
 -- the opcodes that end in 1: AJMP in the even rows, ACALL in the odd ones, both with bits 10 to 8 of

@@ -3,3 +3,4 @@ pub mod Operators
 pub mod Table
 pub mod Decoding
 pub mod Listing
+pub mod Code

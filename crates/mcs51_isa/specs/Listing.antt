@@ -2,23 +2,14 @@
 -- has the address in four hexadecimal digits, a blank, the bytes of the instruction, a blank, the
 -- mnemonic, and, where there are operands, a blank and the operands joined by commas. A jump's or
 -- call's target is its whole address. It ends with a line feed (10).
-use Rattle.std.specs.Prelude.{ℕ, ◌+◌, ◌/◌, ◌%◌, List, [], ◌∷◌, ◌++◌, map, length, slice_index, codes}
+use Rattle.std.specs.Prelude.{ℕ, ◌+◌, ◌%◌, List, [], ◌∷◌, ◌++◌, map, length, codes}
 use Rattle.std.specs.List.{flat_map, join_with_byte}
+use Rattle.cerco_base.specs.HexDigits.{hex_digit, hex_byte, hex_word}
 use Rattle.mcs51_isa.specs.declared.instr.Instr.{Instr}
 use Rattle.mcs51_isa.specs.declared.assembly.Operand.{Operand}
 use Rattle.mcs51_isa.specs.declared.assembly.Operand.TheVariants.{Acc, Carry, Ab, DataPointer, AtDptr, AtAccDptr, AtAccPc, Direct, Bit, NotBit, Immediate, ImmediateWord, Indirect, Register, Relative, Paged, Absolute}
 use Rattle.mcs51_isa.specs.Operands.{reg_number, ind_number, page_target, relative_target}
 use Rattle.mcs51_isa.specs.Table.{entry_of, encode_of}
-
--- a byte in two hexadecimal digits, an address in four
-abbrev pub hex_digit : ℕ → ℕ
-hex_digit n = slice_index (codes "0123456789ABCDEF") n
-
-abbrev pub hex_byte : ℕ → List ℕ
-hex_byte n = hex_digit (n / 16) ∷ hex_digit (n % 16) ∷ []
-
-abbrev pub hex_word : ℕ → List ℕ
-hex_word n = hex_byte (n / 256) ++ hex_byte (n % 256)
 
 -- the text of an operand, where `next` is the address of the next instruction
 abbrev pub operand_text : ℕ → Operand → List ℕ

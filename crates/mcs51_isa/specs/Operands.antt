@@ -1,5 +1,5 @@
 -- The operands of instructions (Intel, MCS-51 instruction set): the numbers by which an opcode names
--- its register or page, where a jump leads, and the operands of assembler text as a list.
+-- its register or page, and where a jump leads.
 use Rattle.std.specs.Prelude.{ℕ, ◌+◌, ◌*◌, ◌/◌, ◌%◌, List, [], ◌∷◌, slice_index_or, nat_lt, if◌then◌else◌}
 use Rattle.mcs51_isa.specs.declared.operands.Reg.{Reg}
 use Rattle.mcs51_isa.specs.declared.operands.Reg.TheVariants.{R0, R1, R2, R3, R4, R5, R6, R7}
@@ -8,9 +8,6 @@ use Rattle.mcs51_isa.specs.declared.operands.Ind.TheVariants.{At0, At1}
 use Rattle.mcs51_isa.specs.declared.operands.Page.{Page}
 use Rattle.mcs51_isa.specs.declared.operands.Page.TheVariants.{Page0, Page1, Page2, Page3, Page4, Page5, Page6, Page7}
 use Rattle.mcs51_isa.specs.declared.operands.Addr11.{Addr11}
-use Rattle.mcs51_isa.specs.declared.assembly.Operand.{Operand}
-use Rattle.mcs51_isa.specs.declared.assembly.OperandList.{OperandList}
-use Rattle.mcs51_isa.specs.declared.assembly.OperandList.TheVariants.{Nothing, One, Two, Three}
 
 -- the number of a register, and the register with this number
 abbrev pub reg_number : Reg → ℕ
@@ -59,10 +56,3 @@ page_target next a = next / 2048 * 2048 + page_number a.page * 256 + a.low
 -- where a relative jump leads: from 128 addresses before the next instruction to 127 behind it
 abbrev pub relative_target : ℕ → ℕ → ℕ
 relative_target next offset = (next + (if nat_lt offset 0x80 then offset else offset + 0xFF00)) % 65536
-
--- the operands of an instruction, in the order of the assembler
-abbrev pub operand_list : OperandList → List Operand
-operand_list Nothing = []
-operand_list (One x) = x ∷ []
-operand_list (Two x y) = x ∷ y ∷ []
-operand_list (Three x y z) = x ∷ y ∷ z ∷ []

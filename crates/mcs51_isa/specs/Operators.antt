@@ -5,17 +5,17 @@ use Rattle.std.specs.Prelude.{ℕ, List, [], ◌∷◌, codes}
 use Rattle.mcs51_isa.specs.declared.instr.LongJump.{LongJump}
 use Rattle.mcs51_isa.specs.declared.instr.LongJump.TheVariants.{Ljmp, Lcall}
 use Rattle.mcs51_isa.specs.declared.instr.ReturnKind.{ReturnKind}
-use Rattle.mcs51_isa.specs.declared.instr.ReturnKind.TheVariants.{Ret, Reti}
+use Rattle.mcs51_isa.specs.declared.instr.ReturnKind.TheVariants.{FromCall, FromInterrupt}
 use Rattle.mcs51_isa.specs.declared.instr.Rotate.{Rotate}
 use Rattle.mcs51_isa.specs.declared.instr.Rotate.TheVariants.{Rr, Rrc, Rl, Rlc}
-use Rattle.mcs51_isa.specs.declared.instr.Step.{Step}
-use Rattle.mcs51_isa.specs.declared.instr.Step.TheVariants.{Inc, Dec}
+use Rattle.mcs51_isa.specs.declared.instr.ByOne.{ByOne}
+use Rattle.mcs51_isa.specs.declared.instr.ByOne.TheVariants.{Inc, Dec}
 use Rattle.mcs51_isa.specs.declared.instr.BitTest.{BitTest}
 use Rattle.mcs51_isa.specs.declared.instr.BitTest.TheVariants.{Jbc, Jb, Jnb}
 use Rattle.mcs51_isa.specs.declared.instr.FlagTest.{FlagTest}
 use Rattle.mcs51_isa.specs.declared.instr.FlagTest.TheVariants.{Jc, Jnc, Jz, Jnz}
-use Rattle.mcs51_isa.specs.declared.instr.Arith.{Arith}
-use Rattle.mcs51_isa.specs.declared.instr.Arith.TheVariants.{Add, Addc, Subb}
+use Rattle.mcs51_isa.specs.declared.instr.SumOp.{SumOp}
+use Rattle.mcs51_isa.specs.declared.instr.SumOp.TheVariants.{Add, Addc, Subb}
 use Rattle.mcs51_isa.specs.declared.instr.Logic.{Logic}
 use Rattle.mcs51_isa.specs.declared.instr.Logic.TheVariants.{Orl, Anl, Xrl}
 use Rattle.mcs51_isa.specs.declared.instr.CarryOp.{CarryOp}
@@ -30,8 +30,8 @@ use Rattle.mcs51_isa.specs.declared.instr.StackOp.{StackOp}
 use Rattle.mcs51_isa.specs.declared.instr.StackOp.TheVariants.{Push, Pop}
 use Rattle.mcs51_isa.specs.declared.instr.Adjustment.{Adjustment}
 use Rattle.mcs51_isa.specs.declared.instr.Adjustment.TheVariants.{Swap, Da}
-use Rattle.mcs51_isa.specs.declared.instr.Transfer.{Transfer}
-use Rattle.mcs51_isa.specs.declared.instr.Transfer.TheVariants.{Load, Store}
+use Rattle.mcs51_isa.specs.declared.instr.Move.{Move}
+use Rattle.mcs51_isa.specs.declared.instr.Move.TheVariants.{IntoAcc, FromAcc}
 use Rattle.mcs51_isa.specs.declared.instr.Whole.{Whole}
 use Rattle.mcs51_isa.specs.declared.instr.Whole.TheVariants.{ClearAcc, ComplementAcc}
 use Rattle.mcs51_isa.specs.declared.assembly.Operand.{Operand}
@@ -46,12 +46,12 @@ long_jump_mnemonic Ljmp = codes "LJMP"
 long_jump_mnemonic Lcall = codes "LCALL"
 
 abbrev pub return_opcode : ReturnKind → ℕ
-return_opcode Ret = 0x22
-return_opcode Reti = 0x32
+return_opcode FromCall = 0x22
+return_opcode FromInterrupt = 0x32
 
 abbrev pub return_mnemonic : ReturnKind → List ℕ
-return_mnemonic Ret = codes "RET"
-return_mnemonic Reti = codes "RETI"
+return_mnemonic FromCall = codes "RET"
+return_mnemonic FromInterrupt = codes "RETI"
 
 abbrev pub rotate_opcode : Rotate → ℕ
 rotate_opcode Rr = 0x03
@@ -65,13 +65,13 @@ rotate_mnemonic Rrc = codes "RRC"
 rotate_mnemonic Rl = codes "RL"
 rotate_mnemonic Rlc = codes "RLC"
 
-abbrev pub step_row : Step → ℕ
-step_row Inc = 0x00
-step_row Dec = 0x10
+abbrev pub by_one_row : ByOne → ℕ
+by_one_row Inc = 0x00
+by_one_row Dec = 0x10
 
-abbrev pub step_mnemonic : Step → List ℕ
-step_mnemonic Inc = codes "INC"
-step_mnemonic Dec = codes "DEC"
+abbrev pub by_one_mnemonic : ByOne → List ℕ
+by_one_mnemonic Inc = codes "INC"
+by_one_mnemonic Dec = codes "DEC"
 
 abbrev pub bit_test_opcode : BitTest → ℕ
 bit_test_opcode Jbc = 0x10
@@ -95,15 +95,15 @@ flag_test_mnemonic Jnc = codes "JNC"
 flag_test_mnemonic Jz = codes "JZ"
 flag_test_mnemonic Jnz = codes "JNZ"
 
-abbrev pub arith_row : Arith → ℕ
-arith_row Add = 0x20
-arith_row Addc = 0x30
-arith_row Subb = 0x90
+abbrev pub sum_row : SumOp → ℕ
+sum_row Add = 0x20
+sum_row Addc = 0x30
+sum_row Subb = 0x90
 
-abbrev pub arith_mnemonic : Arith → List ℕ
-arith_mnemonic Add = codes "ADD"
-arith_mnemonic Addc = codes "ADDC"
-arith_mnemonic Subb = codes "SUBB"
+abbrev pub sum_mnemonic : SumOp → List ℕ
+sum_mnemonic Add = codes "ADD"
+sum_mnemonic Addc = codes "ADDC"
+sum_mnemonic Subb = codes "SUBB"
 
 abbrev pub logic_row : Logic → ℕ
 logic_row Orl = 0x40
@@ -175,14 +175,14 @@ abbrev pub adjustment_mnemonic : Adjustment → List ℕ
 adjustment_mnemonic Swap = codes "SWAP"
 adjustment_mnemonic Da = codes "DA"
 
-abbrev pub transfer_row : Transfer → ℕ
-transfer_row Load = 0xE0
-transfer_row Store = 0xF0
+abbrev pub move_row : Move → ℕ
+move_row IntoAcc = 0xE0
+move_row FromAcc = 0xF0
 
 -- a move into A names A first, one from A names it last
-abbrev pub transfer_operands : Transfer → Operand → List Operand
-transfer_operands Load place = Acc ∷ place ∷ []
-transfer_operands Store place = place ∷ Acc ∷ []
+abbrev pub move_operands : Move → Operand → List Operand
+move_operands IntoAcc place = Acc ∷ place ∷ []
+move_operands FromAcc place = place ∷ Acc ∷ []
 
 abbrev pub whole_opcode : Whole → ℕ
 whole_opcode ClearAcc = 0xE4

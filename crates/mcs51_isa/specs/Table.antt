@@ -3,11 +3,11 @@
 -- oscillator periods. A conditional jump takes its cycles whether it jumps or not.
 use Rattle.std.specs.Prelude.{ℕ, ◌+◌, ◌*◌, ◌/◌, ◌%◌, ◌-◌, List, [], ◌∷◌, ◌++◌, replicate, length, codes}
 use Rattle.mcs51_isa.specs.declared.instr.Instr.{Instr}
-use Rattle.mcs51_isa.specs.declared.instr.Instr.TheVariants.{Nop, Ajmp, Acall, Long, Return, RotateAcc, StepAcc, StepDirect, StepIndirect, StepRegister, BranchBit, BranchFlag, Sjmp, ArithImmediate, ArithDirect, ArithIndirect, ArithRegister, LogicDirectAcc, LogicDirectImmediate, LogicImmediate, LogicDirect, LogicIndirect, LogicRegister, CarryLogic, JmpIndirect, MovAccImmediate, MovDirectImmediate, MovIndirectImmediate, MovRegisterImmediate, Movc, Multiplier, MovDirectDirect, MovDirectIndirect, MovDirectRegister, MovDptr, MovBitCarry, MovCarryBit, IncDptr, MovIndirectDirect, MovRegisterDirect, ChangeBit, ChangeCarry, CjneImmediate, CjneDirect, CjneIndirect, CjneRegister, Stack, Adjust, XchDirect, XchIndirect, XchRegister, Xchd, DjnzDirect, DjnzRegister, MovxDptr, MovxIndirect, WholeAcc, MovDirect, MovIndirect, MovRegister}
+use Rattle.mcs51_isa.specs.declared.instr.Instr.TheVariants.{Nop, Ajmp, Acall, Long, Ret, RotateAcc, StepAcc, StepDirect, StepIndirect, StepRegister, BranchBit, BranchFlag, Sjmp, ArithImmediate, ArithDirect, ArithIndirect, ArithRegister, LogicDirectAcc, LogicDirectImmediate, LogicImmediate, LogicDirect, LogicIndirect, LogicRegister, CarryLogic, JmpIndirect, MovAccImmediate, MovDirectImmediate, MovIndirectImmediate, MovRegisterImmediate, Movc, Multiplier, MovDirectDirect, MovDirectIndirect, MovDirectRegister, MovDptr, MovBitCarry, MovCarryBit, IncDptr, MovIndirectDirect, MovRegisterDirect, ChangeBit, ChangeCarry, CjneImmediate, CjneDirect, CjneIndirect, CjneRegister, Stack, Adjust, XchDirect, XchIndirect, XchRegister, Xchd, DjnzDirect, DjnzRegister, MovxDptr, MovxIndirect, WholeAcc, MovDirect, MovIndirect, MovRegister}
 use Rattle.mcs51_isa.specs.declared.assembly.Operand.{Operand}
 use Rattle.mcs51_isa.specs.declared.assembly.Operand.TheVariants.{Acc, Carry, Ab, DataPointer, AtDptr, AtAccDptr, Direct, Bit, Immediate, ImmediateWord, Indirect, Register, Relative, Paged, Absolute}
 use Rattle.mcs51_isa.specs.Operands.{reg_number, ind_number, page_number}
-use Rattle.mcs51_isa.specs.Operators.{long_jump_opcode, return_opcode, rotate_opcode, step_row, bit_test_opcode, flag_test_opcode, arith_row, logic_row, carry_opcode, table_base_opcode, mul_div_opcode, change_row, stack_opcode, adjustment_opcode, transfer_row, whole_opcode, long_jump_mnemonic, return_mnemonic, rotate_mnemonic, step_mnemonic, bit_test_mnemonic, flag_test_mnemonic, arith_mnemonic, logic_mnemonic, carry_mnemonic, mul_div_mnemonic, change_mnemonic, stack_mnemonic, adjustment_mnemonic, whole_mnemonic, carry_operand, table_operand, transfer_operands}
+use Rattle.mcs51_isa.specs.Operators.{long_jump_opcode, return_opcode, rotate_opcode, by_one_row, bit_test_opcode, flag_test_opcode, sum_row, logic_row, carry_opcode, table_base_opcode, mul_div_opcode, change_row, stack_opcode, adjustment_opcode, move_row, whole_opcode, long_jump_mnemonic, return_mnemonic, rotate_mnemonic, by_one_mnemonic, bit_test_mnemonic, flag_test_mnemonic, sum_mnemonic, logic_mnemonic, carry_mnemonic, mul_div_mnemonic, change_mnemonic, stack_mnemonic, adjustment_mnemonic, whole_mnemonic, carry_operand, table_operand, move_operands}
 
 pub record Entry : Type 0 where
   pub mnemonic : List ℕ
@@ -24,19 +24,19 @@ entry_of Nop = entry (codes "NOP") [] (0x00 ∷ []) 1
 entry_of (Ajmp a) = entry (codes "AJMP") (Paged a ∷ []) ((0x01 + page_number a.page * 0x20) ∷ a.low ∷ []) 2
 entry_of (Acall a) = entry (codes "ACALL") (Paged a ∷ []) ((0x11 + page_number a.page * 0x20) ∷ a.low ∷ []) 2
 entry_of (Long o w) = entry (long_jump_mnemonic o) (Absolute w ∷ []) (long_jump_opcode o ∷ (w / 256) ∷ (w % 256) ∷ []) 2
-entry_of (Return o) = entry (return_mnemonic o) [] (return_opcode o ∷ []) 2
+entry_of (Ret o) = entry (return_mnemonic o) [] (return_opcode o ∷ []) 2
 entry_of (RotateAcc o) = entry (rotate_mnemonic o) (Acc ∷ []) (rotate_opcode o ∷ []) 1
-entry_of (StepAcc o) = entry (step_mnemonic o) (Acc ∷ []) ((step_row o + 0x04) ∷ []) 1
-entry_of (StepDirect o d) = entry (step_mnemonic o) (Direct d ∷ []) ((step_row o + 0x05) ∷ d ∷ []) 1
-entry_of (StepIndirect o i) = entry (step_mnemonic o) (Indirect i ∷ []) ((step_row o + 0x06 + ind_number i) ∷ []) 1
-entry_of (StepRegister o n) = entry (step_mnemonic o) (Register n ∷ []) ((step_row o + 0x08 + reg_number n) ∷ []) 1
+entry_of (StepAcc o) = entry (by_one_mnemonic o) (Acc ∷ []) ((by_one_row o + 0x04) ∷ []) 1
+entry_of (StepDirect o d) = entry (by_one_mnemonic o) (Direct d ∷ []) ((by_one_row o + 0x05) ∷ d ∷ []) 1
+entry_of (StepIndirect o i) = entry (by_one_mnemonic o) (Indirect i ∷ []) ((by_one_row o + 0x06 + ind_number i) ∷ []) 1
+entry_of (StepRegister o n) = entry (by_one_mnemonic o) (Register n ∷ []) ((by_one_row o + 0x08 + reg_number n) ∷ []) 1
 entry_of (BranchBit o b r) = entry (bit_test_mnemonic o) (Bit b ∷ Relative r ∷ []) (bit_test_opcode o ∷ b ∷ r ∷ []) 2
 entry_of (BranchFlag o r) = entry (flag_test_mnemonic o) (Relative r ∷ []) (flag_test_opcode o ∷ r ∷ []) 2
 entry_of (Sjmp r) = entry (codes "SJMP") (Relative r ∷ []) (0x80 ∷ r ∷ []) 2
-entry_of (ArithImmediate o k) = entry (arith_mnemonic o) (Acc ∷ Immediate k ∷ []) ((arith_row o + 0x04) ∷ k ∷ []) 1
-entry_of (ArithDirect o d) = entry (arith_mnemonic o) (Acc ∷ Direct d ∷ []) ((arith_row o + 0x05) ∷ d ∷ []) 1
-entry_of (ArithIndirect o i) = entry (arith_mnemonic o) (Acc ∷ Indirect i ∷ []) ((arith_row o + 0x06 + ind_number i) ∷ []) 1
-entry_of (ArithRegister o n) = entry (arith_mnemonic o) (Acc ∷ Register n ∷ []) ((arith_row o + 0x08 + reg_number n) ∷ []) 1
+entry_of (ArithImmediate o k) = entry (sum_mnemonic o) (Acc ∷ Immediate k ∷ []) ((sum_row o + 0x04) ∷ k ∷ []) 1
+entry_of (ArithDirect o d) = entry (sum_mnemonic o) (Acc ∷ Direct d ∷ []) ((sum_row o + 0x05) ∷ d ∷ []) 1
+entry_of (ArithIndirect o i) = entry (sum_mnemonic o) (Acc ∷ Indirect i ∷ []) ((sum_row o + 0x06 + ind_number i) ∷ []) 1
+entry_of (ArithRegister o n) = entry (sum_mnemonic o) (Acc ∷ Register n ∷ []) ((sum_row o + 0x08 + reg_number n) ∷ []) 1
 entry_of (LogicDirectAcc o d) = entry (logic_mnemonic o) (Direct d ∷ Acc ∷ []) ((logic_row o + 0x02) ∷ d ∷ []) 1
 entry_of (LogicDirectImmediate o d k) = entry (logic_mnemonic o) (Direct d ∷ Immediate k ∷ []) ((logic_row o + 0x03) ∷ d ∷ k ∷ []) 2
 entry_of (LogicImmediate o k) = entry (logic_mnemonic o) (Acc ∷ Immediate k ∷ []) ((logic_row o + 0x04) ∷ k ∷ []) 1
@@ -74,12 +74,12 @@ entry_of (XchRegister n) = entry (codes "XCH") (Acc ∷ Register n ∷ []) ((0xC
 entry_of (Xchd i) = entry (codes "XCHD") (Acc ∷ Indirect i ∷ []) ((0xD6 + ind_number i) ∷ []) 1
 entry_of (DjnzDirect d r) = entry (codes "DJNZ") (Direct d ∷ Relative r ∷ []) (0xD5 ∷ d ∷ r ∷ []) 2
 entry_of (DjnzRegister n r) = entry (codes "DJNZ") (Register n ∷ Relative r ∷ []) ((0xD8 + reg_number n) ∷ r ∷ []) 2
-entry_of (MovxDptr o) = entry (codes "MOVX") (transfer_operands o AtDptr) (transfer_row o ∷ []) 2
-entry_of (MovxIndirect o i) = entry (codes "MOVX") (transfer_operands o (Indirect i)) ((transfer_row o + 0x02 + ind_number i) ∷ []) 2
+entry_of (MovxDptr o) = entry (codes "MOVX") (move_operands o AtDptr) (move_row o ∷ []) 2
+entry_of (MovxIndirect o i) = entry (codes "MOVX") (move_operands o (Indirect i)) ((move_row o + 0x02 + ind_number i) ∷ []) 2
 entry_of (WholeAcc o) = entry (whole_mnemonic o) (Acc ∷ []) (whole_opcode o ∷ []) 1
-entry_of (MovDirect o d) = entry (codes "MOV") (transfer_operands o (Direct d)) ((transfer_row o + 0x05) ∷ d ∷ []) 1
-entry_of (MovIndirect o i) = entry (codes "MOV") (transfer_operands o (Indirect i)) ((transfer_row o + 0x06 + ind_number i) ∷ []) 1
-entry_of (MovRegister o n) = entry (codes "MOV") (transfer_operands o (Register n)) ((transfer_row o + 0x08 + reg_number n) ∷ []) 1
+entry_of (MovDirect o d) = entry (codes "MOV") (move_operands o (Direct d)) ((move_row o + 0x05) ∷ d ∷ []) 1
+entry_of (MovIndirect o i) = entry (codes "MOV") (move_operands o (Indirect i)) ((move_row o + 0x06 + ind_number i) ∷ []) 1
+entry_of (MovRegister o n) = entry (codes "MOV") (move_operands o (Register n)) ((move_row o + 0x08 + reg_number n) ∷ []) 1
 
 -- the bytes of an instruction: its opcode, then its operands
 abbrev pub encode_of : Instr → List ℕ

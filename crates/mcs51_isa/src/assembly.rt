@@ -1,14 +1,14 @@
 //! The operands of instructions as the assembler has them.
 ghost use Rattle.std.specs.Prelude.{◌≡◌};
 ghost use Rattle.mcs51_isa.specs.Table.{entry_of};
-ghost use Rattle.mcs51_isa.specs.Operators.{carry_operand, table_operand, transfer_operands};
-ghost use Rattle.mcs51_isa.specs.Operands.{operand_list};
+ghost use Rattle.mcs51_isa.specs.Operators.{carry_operand, table_operand, move_operands};
+ghost use Rattle.mcs51_isa.specs.Code.OperandLists.{operand_list};
 
-use crate::instr::{CarryOp, Instr, TableBase, Transfer};
+use crate::instr::{CarryOp, Instr, Move, TableBase};
 use crate::operands::{Addr11, Ind, Reg};
 
 /// An operand in assembler text.
-#[derive(Clone, Copy, Debug, PartialEq, Eq)]
+#[derive(Clone, Copy)]
 pub enum Operand {
     /// `A`
     Acc,
@@ -47,7 +47,7 @@ pub enum Operand {
 }
 
 /// The operands of an instruction, in the order of the assembler.
-#[derive(Clone, Copy, Debug, PartialEq, Eq)]
+#[derive(Clone, Copy)]
 pub enum OperandList {
     Nothing,
     One(Operand),
@@ -69,7 +69,7 @@ pub fn operands(i: Instr) -> OperandList
         Instr::Ajmp(target) => One(Paged(target)),
         Instr::Acall(target) => One(Paged(target)),
         Instr::Long(_, word) => One(Absolute(word)),
-        Instr::Return(_) => Nothing,
+        Instr::Ret(_) => Nothing,
         Instr::RotateAcc(_) => One(Acc),
         Instr::StepAcc(_) => One(Acc),
         Instr::StepDirect(_, direct) => One(Direct(direct)),
@@ -127,12 +127,12 @@ pub fn operands(i: Instr) -> OperandList
         Instr::Xchd(ind) => Two(Acc, Indirect(ind)),
         Instr::DjnzDirect(direct, offset) => Two(Direct(direct), Relative(offset)),
         Instr::DjnzRegister(reg, offset) => Two(Register(reg), Relative(offset)),
-        Instr::MovxDptr(op) => transfer_operands(op, AtDptr),
-        Instr::MovxIndirect(op, ind) => transfer_operands(op, Indirect(ind)),
+        Instr::MovxDptr(op) => move_operands(op, AtDptr),
+        Instr::MovxIndirect(op, ind) => move_operands(op, Indirect(ind)),
         Instr::WholeAcc(_) => One(Acc),
-        Instr::MovDirect(op, direct) => transfer_operands(op, Direct(direct)),
-        Instr::MovIndirect(op, ind) => transfer_operands(op, Indirect(ind)),
-        Instr::MovRegister(op, reg) => transfer_operands(op, Register(reg)),
+        Instr::MovDirect(op, direct) => move_operands(op, Direct(direct)),
+        Instr::MovIndirect(op, ind) => move_operands(op, Indirect(ind)),
+        Instr::MovRegister(op, reg) => move_operands(op, Register(reg)),
     }
 }
 
@@ -154,11 +154,11 @@ fn table_operand(op: TableBase) -> Operand
     }
 }
 
-fn transfer_operands(op: Transfer, place: Operand) -> OperandList
-    ensures { operand_list result ≡ transfer_operands op place }
+fn move_operands(op: Move, place: Operand) -> OperandList
+    ensures { operand_list result ≡ move_operands op place }
 {
     match op {
-        Transfer::Load => OperandList::Two(Operand::Acc, place),
-        Transfer::Store => OperandList::Two(place, Operand::Acc),
+        Move::IntoAcc => OperandList::Two(Operand::Acc, place),
+        Move::FromAcc => OperandList::Two(place, Operand::Acc),
     }
 }

@@ -5,8 +5,8 @@ ghost use Rattle.mcs51_isa.specs.Decoding.{decode_of, decoded, reserved, column_
 
 use crate::encoding::length;
 use crate::instr::{
-    Adjustment, Arith, BitChange, BitTest, CarryOp, FlagTest, Instr, Logic, LongJump, MulDiv,
-    ReturnKind, Rotate, StackOp, Step, TableBase, Transfer, Whole,
+    Adjustment, BitChange, BitTest, ByOne, CarryOp, FlagTest, Instr, Logic, LongJump, Move, MulDiv,
+    ReturnKind, Rotate, StackOp, SumOp, TableBase, Whole,
 };
 use crate::operands::{Addr11, Ind, Page, Reg};
 
@@ -79,8 +79,8 @@ fn column_0(row: u8, first: u8, second: u8) -> Option<Instr>
         0xB => Some(Instr::CarryLogic(CarryOp::AnlNotBit, first)),
         0xC => Some(Instr::Stack(StackOp::Push, first)),
         0xD => Some(Instr::Stack(StackOp::Pop, first)),
-        0xE => Some(Instr::MovxDptr(Transfer::Load)),
-        _ => Some(Instr::MovxDptr(Transfer::Store)),
+        0xE => Some(Instr::MovxDptr(Move::IntoAcc)),
+        _ => Some(Instr::MovxDptr(Move::FromAcc)),
     }
 }
 
@@ -91,8 +91,8 @@ fn column_2(row: u8, first: u8, second: u8) -> Option<Instr>
     match row {
         0x0 => Some(Instr::Long(LongJump::Ljmp, word(first, second))),
         0x1 => Some(Instr::Long(LongJump::Lcall, word(first, second))),
-        0x2 => Some(Instr::Return(ReturnKind::Ret)),
-        0x3 => Some(Instr::Return(ReturnKind::Reti)),
+        0x2 => Some(Instr::Ret(ReturnKind::FromCall)),
+        0x3 => Some(Instr::Ret(ReturnKind::FromInterrupt)),
         0x4 => Some(Instr::LogicDirectAcc(Logic::Orl, first)),
         0x5 => Some(Instr::LogicDirectAcc(Logic::Anl, first)),
         0x6 => Some(Instr::LogicDirectAcc(Logic::Xrl, first)),
@@ -103,8 +103,8 @@ fn column_2(row: u8, first: u8, second: u8) -> Option<Instr>
         0xB => Some(Instr::ChangeBit(BitChange::Cpl, first)),
         0xC => Some(Instr::ChangeBit(BitChange::Clr, first)),
         0xD => Some(Instr::ChangeBit(BitChange::Setb, first)),
-        0xE => Some(Instr::MovxIndirect(Transfer::Load, Ind::At0)),
-        _ => Some(Instr::MovxIndirect(Transfer::Store, Ind::At0)),
+        0xE => Some(Instr::MovxIndirect(Move::IntoAcc, Ind::At0)),
+        _ => Some(Instr::MovxIndirect(Move::FromAcc, Ind::At0)),
     }
 }
 
@@ -127,8 +127,8 @@ fn column_3(row: u8, first: u8, second: u8) -> Option<Instr>
         0xB => Some(Instr::ChangeCarry(BitChange::Cpl)),
         0xC => Some(Instr::ChangeCarry(BitChange::Clr)),
         0xD => Some(Instr::ChangeCarry(BitChange::Setb)),
-        0xE => Some(Instr::MovxIndirect(Transfer::Load, Ind::At1)),
-        _ => Some(Instr::MovxIndirect(Transfer::Store, Ind::At1)),
+        0xE => Some(Instr::MovxIndirect(Move::IntoAcc, Ind::At1)),
+        _ => Some(Instr::MovxIndirect(Move::FromAcc, Ind::At1)),
     }
 }
 
@@ -137,16 +137,16 @@ fn column_4(row: u8, first: u8, second: u8) -> Option<Instr>
     ensures { result ≡ slice_index_or column_4 row reserved first second }
 {
     match row {
-        0x0 => Some(Instr::StepAcc(Step::Inc)),
-        0x1 => Some(Instr::StepAcc(Step::Dec)),
-        0x2 => Some(Instr::ArithImmediate(Arith::Add, first)),
-        0x3 => Some(Instr::ArithImmediate(Arith::Addc, first)),
+        0x0 => Some(Instr::StepAcc(ByOne::Inc)),
+        0x1 => Some(Instr::StepAcc(ByOne::Dec)),
+        0x2 => Some(Instr::ArithImmediate(SumOp::Add, first)),
+        0x3 => Some(Instr::ArithImmediate(SumOp::Addc, first)),
         0x4 => Some(Instr::LogicImmediate(Logic::Orl, first)),
         0x5 => Some(Instr::LogicImmediate(Logic::Anl, first)),
         0x6 => Some(Instr::LogicImmediate(Logic::Xrl, first)),
         0x7 => Some(Instr::MovAccImmediate(first)),
         0x8 => Some(Instr::Multiplier(MulDiv::DivAb)),
-        0x9 => Some(Instr::ArithImmediate(Arith::Subb, first)),
+        0x9 => Some(Instr::ArithImmediate(SumOp::Subb, first)),
         0xA => Some(Instr::Multiplier(MulDiv::MulAb)),
         0xB => Some(Instr::CjneImmediate(first, second)),
         0xC => Some(Instr::Adjust(Adjustment::Swap)),
@@ -161,10 +161,10 @@ fn column_5(row: u8, first: u8, second: u8) -> Option<Instr>
     ensures { result ≡ slice_index_or column_5 row reserved first second }
 {
     match row {
-        0x0 => Some(Instr::StepDirect(Step::Inc, first)),
-        0x1 => Some(Instr::StepDirect(Step::Dec, first)),
-        0x2 => Some(Instr::ArithDirect(Arith::Add, first)),
-        0x3 => Some(Instr::ArithDirect(Arith::Addc, first)),
+        0x0 => Some(Instr::StepDirect(ByOne::Inc, first)),
+        0x1 => Some(Instr::StepDirect(ByOne::Dec, first)),
+        0x2 => Some(Instr::ArithDirect(SumOp::Add, first)),
+        0x3 => Some(Instr::ArithDirect(SumOp::Addc, first)),
         0x4 => Some(Instr::LogicDirect(Logic::Orl, first)),
         0x5 => Some(Instr::LogicDirect(Logic::Anl, first)),
         0x6 => Some(Instr::LogicDirect(Logic::Xrl, first)),
@@ -173,13 +173,13 @@ fn column_5(row: u8, first: u8, second: u8) -> Option<Instr>
             source: first,
             target: second,
         }),
-        0x9 => Some(Instr::ArithDirect(Arith::Subb, first)),
+        0x9 => Some(Instr::ArithDirect(SumOp::Subb, first)),
         0xA => None,
         0xB => Some(Instr::CjneDirect(first, second)),
         0xC => Some(Instr::XchDirect(first)),
         0xD => Some(Instr::DjnzDirect(first, second)),
-        0xE => Some(Instr::MovDirect(Transfer::Load, first)),
-        _ => Some(Instr::MovDirect(Transfer::Store, first)),
+        0xE => Some(Instr::MovDirect(Move::IntoAcc, first)),
+        _ => Some(Instr::MovDirect(Move::FromAcc, first)),
     }
 }
 
@@ -188,22 +188,22 @@ fn column_indirect(row: u8, ind: Ind, first: u8, second: u8) -> Option<Instr>
     ensures { result ≡ slice_index_or (column_indirect ind) row reserved first second }
 {
     match row {
-        0x0 => Some(Instr::StepIndirect(Step::Inc, ind)),
-        0x1 => Some(Instr::StepIndirect(Step::Dec, ind)),
-        0x2 => Some(Instr::ArithIndirect(Arith::Add, ind)),
-        0x3 => Some(Instr::ArithIndirect(Arith::Addc, ind)),
+        0x0 => Some(Instr::StepIndirect(ByOne::Inc, ind)),
+        0x1 => Some(Instr::StepIndirect(ByOne::Dec, ind)),
+        0x2 => Some(Instr::ArithIndirect(SumOp::Add, ind)),
+        0x3 => Some(Instr::ArithIndirect(SumOp::Addc, ind)),
         0x4 => Some(Instr::LogicIndirect(Logic::Orl, ind)),
         0x5 => Some(Instr::LogicIndirect(Logic::Anl, ind)),
         0x6 => Some(Instr::LogicIndirect(Logic::Xrl, ind)),
         0x7 => Some(Instr::MovIndirectImmediate(ind, first)),
         0x8 => Some(Instr::MovDirectIndirect(first, ind)),
-        0x9 => Some(Instr::ArithIndirect(Arith::Subb, ind)),
+        0x9 => Some(Instr::ArithIndirect(SumOp::Subb, ind)),
         0xA => Some(Instr::MovIndirectDirect(ind, first)),
         0xB => Some(Instr::CjneIndirect(ind, first, second)),
         0xC => Some(Instr::XchIndirect(ind)),
         0xD => Some(Instr::Xchd(ind)),
-        0xE => Some(Instr::MovIndirect(Transfer::Load, ind)),
-        _ => Some(Instr::MovIndirect(Transfer::Store, ind)),
+        0xE => Some(Instr::MovIndirect(Move::IntoAcc, ind)),
+        _ => Some(Instr::MovIndirect(Move::FromAcc, ind)),
     }
 }
 
@@ -212,21 +212,21 @@ fn column_register(row: u8, reg: Reg, first: u8, second: u8) -> Option<Instr>
     ensures { result ≡ slice_index_or (column_register reg) row reserved first second }
 {
     match row {
-        0x0 => Some(Instr::StepRegister(Step::Inc, reg)),
-        0x1 => Some(Instr::StepRegister(Step::Dec, reg)),
-        0x2 => Some(Instr::ArithRegister(Arith::Add, reg)),
-        0x3 => Some(Instr::ArithRegister(Arith::Addc, reg)),
+        0x0 => Some(Instr::StepRegister(ByOne::Inc, reg)),
+        0x1 => Some(Instr::StepRegister(ByOne::Dec, reg)),
+        0x2 => Some(Instr::ArithRegister(SumOp::Add, reg)),
+        0x3 => Some(Instr::ArithRegister(SumOp::Addc, reg)),
         0x4 => Some(Instr::LogicRegister(Logic::Orl, reg)),
         0x5 => Some(Instr::LogicRegister(Logic::Anl, reg)),
         0x6 => Some(Instr::LogicRegister(Logic::Xrl, reg)),
         0x7 => Some(Instr::MovRegisterImmediate(reg, first)),
         0x8 => Some(Instr::MovDirectRegister(first, reg)),
-        0x9 => Some(Instr::ArithRegister(Arith::Subb, reg)),
+        0x9 => Some(Instr::ArithRegister(SumOp::Subb, reg)),
         0xA => Some(Instr::MovRegisterDirect(reg, first)),
         0xB => Some(Instr::CjneRegister(reg, first, second)),
         0xC => Some(Instr::XchRegister(reg)),
         0xD => Some(Instr::DjnzRegister(reg, first)),
-        0xE => Some(Instr::MovRegister(Transfer::Load, reg)),
-        _ => Some(Instr::MovRegister(Transfer::Store, reg)),
+        0xE => Some(Instr::MovRegister(Move::IntoAcc, reg)),
+        _ => Some(Instr::MovRegister(Move::FromAcc, reg)),
     }
 }

@@ -31,7 +31,7 @@ fn padded_code(i: Instr) -> ([u8; 3], u8)
         Instr::Ajmp(target) => ([0x01 + target.page.number() * 0x20, target.low, 0], 2),
         Instr::Acall(target) => ([0x11 + target.page.number() * 0x20, target.low, 0], 2),
         Instr::Long(op, word) => ([op.opcode(), (word / 256) as u8, (word % 256) as u8], 3),
-        Instr::Return(op) => ([op.opcode(), 0, 0], 1),
+        Instr::Ret(op) => ([op.opcode(), 0, 0], 1),
         Instr::RotateAcc(op) => ([op.opcode(), 0, 0], 1),
         Instr::StepAcc(op) => ([op.row() + 0x04, 0, 0], 1),
         Instr::StepDirect(op, direct) => ([op.row() + 0x05, direct, 0], 2),

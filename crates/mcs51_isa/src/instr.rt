@@ -3,21 +3,23 @@
 use crate::operands::{Addr11, Ind, Reg};
 
 /// A jump or call with a whole address.
-#[derive(Clone, Copy, Debug, PartialEq, Eq)]
+#[derive(Clone, Copy)]
 pub enum LongJump {
     Ljmp,
     Lcall,
 }
 
 /// A return from a call or from an interrupt.
-#[derive(Clone, Copy, Debug, PartialEq, Eq)]
+#[derive(Clone, Copy)]
 pub enum ReturnKind {
-    Ret,
-    Reti,
+    /// `RET`
+    FromCall,
+    /// `RETI`
+    FromInterrupt,
 }
 
 /// A rotation of A by one bit. `Rrc` and `Rlc` turn it through the carry.
-#[derive(Clone, Copy, Debug, PartialEq, Eq)]
+#[derive(Clone, Copy)]
 pub enum Rotate {
     Rr,
     Rrc,
@@ -26,14 +28,14 @@ pub enum Rotate {
 }
 
 /// A change by one.
-#[derive(Clone, Copy, Debug, PartialEq, Eq)]
-pub enum Step {
+#[derive(Clone, Copy)]
+pub enum ByOne {
     Inc,
     Dec,
 }
 
 /// The test of a jump on a bit. `Jbc` clears the bit where it jumps.
-#[derive(Clone, Copy, Debug, PartialEq, Eq)]
+#[derive(Clone, Copy)]
 pub enum BitTest {
     Jbc,
     Jb,
@@ -41,7 +43,7 @@ pub enum BitTest {
 }
 
 /// The test of a jump on the carry or on A.
-#[derive(Clone, Copy, Debug, PartialEq, Eq)]
+#[derive(Clone, Copy)]
 pub enum FlagTest {
     Jc,
     Jnc,
@@ -50,15 +52,15 @@ pub enum FlagTest {
 }
 
 /// A sum or difference in A. `Addc` and `Subb` take the carry in.
-#[derive(Clone, Copy, Debug, PartialEq, Eq)]
-pub enum Arith {
+#[derive(Clone, Copy)]
+pub enum SumOp {
     Add,
     Addc,
     Subb,
 }
 
 /// A logical operation on bytes.
-#[derive(Clone, Copy, Debug, PartialEq, Eq)]
+#[derive(Clone, Copy)]
 pub enum Logic {
     Orl,
     Anl,
@@ -66,7 +68,7 @@ pub enum Logic {
 }
 
 /// A logical operation of the carry and a bit, or of the carry and the complement of a bit.
-#[derive(Clone, Copy, Debug, PartialEq, Eq)]
+#[derive(Clone, Copy)]
 pub enum CarryOp {
     OrlBit,
     AnlBit,
@@ -75,21 +77,21 @@ pub enum CarryOp {
 }
 
 /// What MOVC adds A to.
-#[derive(Clone, Copy, Debug, PartialEq, Eq)]
+#[derive(Clone, Copy)]
 pub enum TableBase {
     Pc,
     Dptr,
 }
 
 /// A product or quotient of A and B.
-#[derive(Clone, Copy, Debug, PartialEq, Eq)]
+#[derive(Clone, Copy)]
 pub enum MulDiv {
     DivAb,
     MulAb,
 }
 
 /// A change of a bit.
-#[derive(Clone, Copy, Debug, PartialEq, Eq)]
+#[derive(Clone, Copy)]
 pub enum BitChange {
     Cpl,
     Clr,
@@ -97,28 +99,28 @@ pub enum BitChange {
 }
 
 /// A move to or from the stack.
-#[derive(Clone, Copy, Debug, PartialEq, Eq)]
+#[derive(Clone, Copy)]
 pub enum StackOp {
     Push,
     Pop,
 }
 
 /// A change of A by its digits of four bits: they change places, or a sum is made decimal.
-#[derive(Clone, Copy, Debug, PartialEq, Eq)]
+#[derive(Clone, Copy)]
 pub enum Adjustment {
     Swap,
     Da,
 }
 
 /// The direction of a move: into A, or from A.
-#[derive(Clone, Copy, Debug, PartialEq, Eq)]
-pub enum Transfer {
-    Load,
-    Store,
+#[derive(Clone, Copy)]
+pub enum Move {
+    IntoAcc,
+    FromAcc,
 }
 
 /// A change of A as a whole.
-#[derive(Clone, Copy, Debug, PartialEq, Eq)]
+#[derive(Clone, Copy)]
 pub enum Whole {
     ClearAcc,
     ComplementAcc,
@@ -127,7 +129,7 @@ pub enum Whole {
 /// An instruction with its operands, which stand in the order of its bytes. In the texts below
 /// `dir` is a direct address, `bit` a bit address, `rel` an offset from the next instruction,
 /// `#d` and `#d16` an immediate byte and word.
-#[derive(Clone, Copy, Debug, PartialEq, Eq)]
+#[derive(Clone, Copy)]
 pub enum Instr {
     /// `NOP`
     Nop,
@@ -138,17 +140,17 @@ pub enum Instr {
     /// `LJMP addr16`, `LCALL addr16`
     Long(LongJump, u16),
     /// `RET`, `RETI`
-    Return(ReturnKind),
+    Ret(ReturnKind),
     /// `RR A`, `RRC A`, `RL A`, `RLC A`
     RotateAcc(Rotate),
     /// `INC A`, `DEC A`
-    StepAcc(Step),
+    StepAcc(ByOne),
     /// `INC dir`, `DEC dir`
-    StepDirect(Step, u8),
+    StepDirect(ByOne, u8),
     /// `INC @Ri`, `DEC @Ri`
-    StepIndirect(Step, Ind),
+    StepIndirect(ByOne, Ind),
     /// `INC Rn`, `DEC Rn`
-    StepRegister(Step, Reg),
+    StepRegister(ByOne, Reg),
     /// `JBC bit,rel`, `JB bit,rel`, `JNB bit,rel`
     BranchBit(BitTest, u8, u8),
     /// `JC rel`, `JNC rel`, `JZ rel`, `JNZ rel`
@@ -156,13 +158,13 @@ pub enum Instr {
     /// `SJMP rel`
     Sjmp(u8),
     /// `ADD A,#d`, `ADDC A,#d`, `SUBB A,#d`
-    ArithImmediate(Arith, u8),
+    ArithImmediate(SumOp, u8),
     /// `ADD A,dir`, `ADDC A,dir`, `SUBB A,dir`
-    ArithDirect(Arith, u8),
+    ArithDirect(SumOp, u8),
     /// `ADD A,@Ri`, `ADDC A,@Ri`, `SUBB A,@Ri`
-    ArithIndirect(Arith, Ind),
+    ArithIndirect(SumOp, Ind),
     /// `ADD A,Rn`, `ADDC A,Rn`, `SUBB A,Rn`
-    ArithRegister(Arith, Reg),
+    ArithRegister(SumOp, Reg),
     /// `ORL dir,A`, `ANL dir,A`, `XRL dir,A`
     LogicDirectAcc(Logic, u8),
     /// `ORL dir,#d`, `ANL dir,#d`, `XRL dir,#d`
@@ -238,15 +240,15 @@ pub enum Instr {
     /// `DJNZ Rn,rel`
     DjnzRegister(Reg, u8),
     /// `MOVX A,@DPTR`, `MOVX @DPTR,A`
-    MovxDptr(Transfer),
+    MovxDptr(Move),
     /// `MOVX A,@Ri`, `MOVX @Ri,A`
-    MovxIndirect(Transfer, Ind),
+    MovxIndirect(Move, Ind),
     /// `CLR A`, `CPL A`
     WholeAcc(Whole),
     /// `MOV A,dir`, `MOV dir,A`
-    MovDirect(Transfer, u8),
+    MovDirect(Move, u8),
     /// `MOV A,@Ri`, `MOV @Ri,A`
-    MovIndirect(Transfer, Ind),
+    MovIndirect(Move, Ind),
     /// `MOV A,Rn`, `MOV Rn,A`
-    MovRegister(Transfer, Reg),
+    MovRegister(Move, Reg),
 }

@@ -11,15 +11,13 @@ pub mod mnemonics;
 mod opcodes;
 pub mod operands;
 pub mod targets;
-#[cfg(test)]
-mod tests;
 pub mod timing;
 
 pub use decoding::decode;
 pub use encoding::{encode, length};
 pub use instr::{
-    Adjustment, Arith, BitChange, BitTest, CarryOp, FlagTest, Instr, Logic, LongJump, MulDiv,
-    ReturnKind, Rotate, StackOp, Step, TableBase, Transfer, Whole,
+    Adjustment, BitChange, BitTest, ByOne, CarryOp, FlagTest, Instr, Logic, LongJump, Move, MulDiv,
+    ReturnKind, Rotate, StackOp, SumOp, TableBase, Whole,
 };
 pub use listing::list_line;
 pub use operands::{Addr11, Ind, Page, Reg};

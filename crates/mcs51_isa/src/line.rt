@@ -1,8 +1,9 @@
 //! A line of text that is put together in place and takes no memory.
 ghost use Rattle.std.specs.Prelude.{◌≡◌, ◌<◌, ◌≤◌, ◌+◌, ◌*◌, ◌++◌, ◌∷◌, [], length};
 ghost use Rattle.std.specs.List.{flat_map};
-ghost use Rattle.mcs51_isa.specs.Listing.{hex_digit, hex_byte, hex_word};
+ghost use Rattle.cerco_base.specs.HexDigits.{hex_digit, hex_byte, hex_word};
 
+use cerco_base::hex_digit;
 use std::marker::Model;
 
 /// The most bytes of a line: 4 digits, 6 digits, a mnemonic of 5 letters, three operands of 7
@@ -70,7 +71,7 @@ impl Line {
         requires digit { digit < 16 }
         ensures { self.new ≡ self.old ++ hex_digit digit ∷ [] }
     {
-        self.push(b"0123456789ABCDEF"[digit as usize]);
+        self.push(hex_digit(digit));
     }
 
     /// Adds a byte in two hexadecimal digits.

@@ -1,8 +1,10 @@
 //! The listing of a program: its instructions, one a line.
 ghost use Rattle.std.specs.Prelude.{◌≡◌, ◌≤◌, ◌+◌, ◌++◌, ◌∷◌, [], length, codes};
 ghost use Rattle.cerco_base.specs.Outside.IoCalls.{PutsText};
-ghost use Rattle.mcs51_isa.specs.Operands.{operand_list, ind_number, reg_number};
-ghost use Rattle.mcs51_isa.specs.Listing.{line_of, operand_text, operands_text, hex_digit, hex_byte, hex_word};
+ghost use Rattle.mcs51_isa.specs.Operands.{ind_number, reg_number};
+ghost use Rattle.mcs51_isa.specs.Code.OperandLists.{operand_list};
+ghost use Rattle.cerco_base.specs.HexDigits.{hex_digit, hex_byte, hex_word};
+ghost use Rattle.mcs51_isa.specs.Listing.{line_of, operand_text, operands_text};
 
 use crate::assembly::{Operand, OperandList, operands};
 use crate::encoding::encode;

@@ -4,8 +4,8 @@ ghost use Rattle.std.specs.Prelude.{◌≡◌, ◌≤◌, length};
 ghost use Rattle.mcs51_isa.specs.Table.{entry_of};
 
 use crate::instr::{
-    Adjustment, Arith, BitChange, BitTest, CarryOp, FlagTest, Instr, Logic, LongJump, MulDiv,
-    ReturnKind, Rotate, StackOp, Step, Whole,
+    Adjustment, BitChange, BitTest, ByOne, CarryOp, FlagTest, Instr, Logic, LongJump, MulDiv,
+    ReturnKind, Rotate, StackOp, SumOp, Whole,
 };
 
 /// The mnemonic of an instruction, of 2 to 5 letters.
@@ -18,7 +18,7 @@ pub fn mnemonic(i: Instr) -> &'static str
         Instr::Ajmp(_) => "AJMP",
         Instr::Acall(_) => "ACALL",
         Instr::Long(op, _) => op.mnemonic(),
-        Instr::Return(op) => op.mnemonic(),
+        Instr::Ret(op) => op.mnemonic(),
         Instr::RotateAcc(op) => op.mnemonic(),
         Instr::StepAcc(op) => op.mnemonic(),
         Instr::StepDirect(op, _) => op.mnemonic(),
@@ -101,8 +101,8 @@ impl ReturnKind {
         ensures short { length result.now ≤ 5 }
     {
         match self {
-            ReturnKind::Ret => "RET",
-            ReturnKind::Reti => "RETI",
+            ReturnKind::FromCall => "RET",
+            ReturnKind::FromInterrupt => "RETI",
         }
     }
 }
@@ -124,17 +124,17 @@ impl Rotate {
     }
 }
 
-impl Step {
+impl ByOne {
     ghost use Rattle.std.specs.Prelude.{◌≡◌, ◌≤◌, length};
-    ghost use Rattle.mcs51_isa.specs.Operators.{step_mnemonic};
+    ghost use Rattle.mcs51_isa.specs.Operators.{by_one_mnemonic};
 
     pub(crate) fn mnemonic(self) -> &'static str
-        ensures value { result.now ≡ step_mnemonic self }
+        ensures value { result.now ≡ by_one_mnemonic self }
         ensures short { length result.now ≤ 5 }
     {
         match self {
-            Step::Inc => "INC",
-            Step::Dec => "DEC",
+            ByOne::Inc => "INC",
+            ByOne::Dec => "DEC",
         }
     }
 }
@@ -172,18 +172,18 @@ impl FlagTest {
     }
 }
 
-impl Arith {
+impl SumOp {
     ghost use Rattle.std.specs.Prelude.{◌≡◌, ◌≤◌, length};
-    ghost use Rattle.mcs51_isa.specs.Operators.{arith_mnemonic};
+    ghost use Rattle.mcs51_isa.specs.Operators.{sum_mnemonic};
 
     pub(crate) fn mnemonic(self) -> &'static str
-        ensures value { result.now ≡ arith_mnemonic self }
+        ensures value { result.now ≡ sum_mnemonic self }
         ensures short { length result.now ≤ 5 }
     {
         match self {
-            Arith::Add => "ADD",
-            Arith::Addc => "ADDC",
-            Arith::Subb => "SUBB",
+            SumOp::Add => "ADD",
+            SumOp::Addc => "ADDC",
+            SumOp::Subb => "SUBB",
         }
     }
 }

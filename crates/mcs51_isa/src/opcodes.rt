@@ -2,8 +2,8 @@
 //! its row of the opcode map, of any other its opcode.
 
 use crate::instr::{
-    Adjustment, Arith, BitChange, BitTest, CarryOp, FlagTest, Logic, LongJump, MulDiv, ReturnKind,
-    Rotate, StackOp, Step, TableBase, Transfer, Whole,
+    Adjustment, BitChange, BitTest, ByOne, CarryOp, FlagTest, Logic, LongJump, Move, MulDiv,
+    ReturnKind, Rotate, StackOp, SumOp, TableBase, Whole,
 };
 
 impl LongJump {
@@ -28,8 +28,8 @@ impl ReturnKind {
         ensures { result ≡ return_opcode self }
     {
         match self {
-            ReturnKind::Ret => 0x22,
-            ReturnKind::Reti => 0x32,
+            ReturnKind::FromCall => 0x22,
+            ReturnKind::FromInterrupt => 0x32,
         }
     }
 }
@@ -50,17 +50,17 @@ impl Rotate {
     }
 }
 
-impl Step {
+impl ByOne {
     ghost use Rattle.std.specs.Prelude.{◌≡◌, ◌≤◌};
-    ghost use Rattle.mcs51_isa.specs.Operators.{step_row};
+    ghost use Rattle.mcs51_isa.specs.Operators.{by_one_row};
 
     pub(crate) fn row(self) -> u8
-        ensures value { result ≡ step_row self }
+        ensures value { result ≡ by_one_row self }
         ensures below { result ≤ 0xF0 }
     {
         match self {
-            Step::Inc => 0x00,
-            Step::Dec => 0x10,
+            ByOne::Inc => 0x00,
+            ByOne::Dec => 0x10,
         }
     }
 }
@@ -96,18 +96,18 @@ impl FlagTest {
     }
 }
 
-impl Arith {
+impl SumOp {
     ghost use Rattle.std.specs.Prelude.{◌≡◌, ◌≤◌};
-    ghost use Rattle.mcs51_isa.specs.Operators.{arith_row};
+    ghost use Rattle.mcs51_isa.specs.Operators.{sum_row};
 
     pub(crate) fn row(self) -> u8
-        ensures value { result ≡ arith_row self }
+        ensures value { result ≡ sum_row self }
         ensures below { result ≤ 0xF0 }
     {
         match self {
-            Arith::Add => 0x20,
-            Arith::Addc => 0x30,
-            Arith::Subb => 0x90,
+            SumOp::Add => 0x20,
+            SumOp::Addc => 0x30,
+            SumOp::Subb => 0x90,
         }
     }
 }
@@ -216,17 +216,17 @@ impl Adjustment {
     }
 }
 
-impl Transfer {
+impl Move {
     ghost use Rattle.std.specs.Prelude.{◌≡◌, ◌≤◌};
-    ghost use Rattle.mcs51_isa.specs.Operators.{transfer_row};
+    ghost use Rattle.mcs51_isa.specs.Operators.{move_row};
 
     pub(crate) fn row(self) -> u8
-        ensures value { result ≡ transfer_row self }
+        ensures value { result ≡ move_row self }
         ensures below { result ≤ 0xF0 }
     {
         match self {
-            Transfer::Load => 0xE0,
-            Transfer::Store => 0xF0,
+            Move::IntoAcc => 0xE0,
+            Move::FromAcc => 0xF0,
         }
     }
 }

@@ -1,7 +1,7 @@
 //! The operands that an opcode itself holds: registers, indirect registers and 11-bit addresses.
 
 /// A register of the current bank.
-#[derive(Clone, Copy, Debug, PartialEq, Eq)]
+#[derive(Clone, Copy)]
 pub enum Reg {
     R0,
     R1,
@@ -14,14 +14,14 @@ pub enum Reg {
 }
 
 /// A register that holds an address, written `@R0` or `@R1`.
-#[derive(Clone, Copy, Debug, PartialEq, Eq)]
+#[derive(Clone, Copy)]
 pub enum Ind {
     At0,
     At1,
 }
 
 /// Bits 10 to 8 of an address: one of the eight pages of 256 bytes in a block of 2,048.
-#[derive(Clone, Copy, Debug, PartialEq, Eq)]
+#[derive(Clone, Copy)]
 pub enum Page {
     Page0,
     Page1,
@@ -34,7 +34,7 @@ pub enum Page {
 }
 
 /// The low 11 bits of an address, the operand of AJMP and ACALL.
-#[derive(Clone, Copy, Debug, PartialEq, Eq)]
+#[derive(Clone, Copy)]
 pub struct Addr11 {
     /// Bits 10 to 8, which stand in the opcode.
     pub page: Page,

@@ -14,7 +14,7 @@ pub fn cycles(i: Instr) -> u8
         Instr::Ajmp(_) => 2,
         Instr::Acall(_) => 2,
         Instr::Long(_, _) => 2,
-        Instr::Return(_) => 2,
+        Instr::Ret(_) => 2,
         Instr::RotateAcc(_) => 1,
         Instr::StepAcc(_) => 1,
         Instr::StepDirect(_, _) => 1,

@@ -4,11 +4,12 @@ use Rattle.std.proofs.lemmas.List.{get_or-set_same, get_or-set_other, length-set
 use Rattle.std.proofs.lemmas.Bool.{eq-eqb, lt-ltb}
 use Rattle.cerco_base.specs.declared.events.Port.{Port}
 use Rattle.cerco_base.specs.declared.events.Port.TheVariants.{P0, P1, P2, P3}
+use Rattle.cerco_base.specs.Ports.{port_number}
 use Rattle.mcs51_isa.specs.declared.instr.Instr.TheVariants.{MovDirectImmediate, Sjmp}
 use Rattle.mcs51_isa.specs.Operands.{relative_target}
 use Rattle.sim51.specs.declared.location.Location.TheVariants.{Ram, Latch}
 use Rattle.sim51.specs.State.{Core}
-use Rattle.sim51.specs.Locations.{location_of, special_at, port_number, port_address, top, popped, called_from}
+use Rattle.sim51.specs.Locations.{location_of, special_at, port_address, top, popped, called_from}
 use Rattle.sim51.specs.Effect.{effect}
 use Rattle.sim51.specs.Step.{halts, next_address}
 

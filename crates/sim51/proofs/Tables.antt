@@ -1,4 +1,4 @@
--- How the table of the labels of all addresses grows, one label after another, and that of their places, one address after another.
+-- How the table of the labels of all addresses grows, one label after another, and that of their slots, one address after another.
 use Rattle.std.proofs.Common.{◌≡◌, ℕ, suc, ◌+◌, ◌<◌, ◌≤◌, List, [], ◌∷◌, ◌++◌, Option, Some, None, true, false, sym, ap, ◌∙◌, arith, get_or, set, take, length, inl, inr, nat_eq, length-take, length-append, subst}
 use Rattle.std.specs.Prelude.{◌==◌, ◌||◌, slice_get}
 use Rattle.std.specs.List.{IsDistinct, list_any}
@@ -8,9 +8,9 @@ use Rattle.std.proofs.lemmas.Map.Keys.{apart_from_distinct}
 use Rattle.std.proofs.lemmas.Bool.Decides.{eqb_tells}
 use Rattle.std.proofs.lemmas.Map.Steps.{length-le_from_distinct_below}
 use Rattle.cerco_base.specs.declared.events.Label.{Label}
-use Rattle.sim51.specs.declared.places.Place.{Place}
+use Rattle.sim51.specs.declared.slots.Slot.{Slot}
 use Rattle.sim51.specs.Step.{instr_at, label_at}
-use Rattle.sim51.specs.Places.{ArePlaces, place_by, place_of}
+use Rattle.sim51.specs.Code.Slots.{AreSlots, slot_by, slot_of}
 use Rattle.sim51.proofs.Labels.{label_at-push, label_at-first}
 
 -- this table has the label at each address
@@ -51,12 +51,12 @@ at_most_all labels distinct low = length-le_from_distinct_below labels 65536 dis
           | inr other ↦ below_if_any q xs (λ k lt. each (suc k) (omega arith)) (ap (λ b. b || list_any (nat_eq q) xs) (sym other.0) ∙ found)
         ]
 
--- the places of the addresses below n, made from the labels of all addresses
-pub record ArePlacesBelow (code labels : List ℕ) (table : List (Option Label)) (n : ℕ) (places : List Place) : Type 0 where
+-- the slots of the addresses below n, made from the labels of all addresses
+pub record AreSlotsBelow (code labels : List ℕ) (table : List (Option Label)) (n : ℕ) (slots : List Slot) : Type 0 where
   pub addresses : length table ≡ 65536
   pub labelled : (a : ℕ) → a < 65536 → slice_get table a ≡ Some (label_at labels a)
-  pub count : length places ≡ n
-  pub each : (a : ℕ) → a < n → slice_get places a ≡ Some (place_of code labels a)
+  pub count : length slots ≡ n
+  pub each : (a : ℕ) → a < n → slice_get slots a ≡ Some (slot_of code labels a)
 
 length-push : {A : Type 0} (xs : List A) (y : A) → length (xs ++ y ∷ []) ≡ length xs + 1
 length-push xs y = length-append xs (y ∷ [])
@@ -70,30 +70,30 @@ slice_get-push_last : {A : Type 0} (xs : List A) (y : A) (i : ℕ) → length xs
 slice_get-push_last xs y i last =
     slice_get_read (xs ++ y ∷ []) (length xs + 1) i y (sym (length-push xs y)) (omega arith) (sym (get_or_push xs y y i last))
 
-pub places_grow : (code labels : List ℕ) (table : List (Option Label)) (n : ℕ) (places : List Place) (place : Place) (label : Option Label) → ArePlacesBelow code labels table n places → n < 65536 → slice_get table n ≡ Some label → place ≡ place_by (instr_at code n) label n → ArePlacesBelow code labels table (n + 1) (places ++ place ∷ [])
-places_grow code labels table n places place label below low read made =
+pub slots_grow : (code labels : List ℕ) (table : List (Option Label)) (n : ℕ) (slots : List Slot) (slot : Slot) (label : Option Label) → AreSlotsBelow code labels table n slots → n < 65536 → slice_get table n ≡ Some label → slot ≡ slot_by (instr_at code n) label n → AreSlotsBelow code labels table (n + 1) (slots ++ slot ∷ [])
+slots_grow code labels table n slots slot label below low read made =
     let same : label ≡ label_at labels n = let both = sym read ∙ below.labelled n low in cc in
-    let right : place ≡ place_of code labels n = made ∙ ap (λ l. place_by (instr_at code n) l n) same in
+    let right : slot ≡ slot_of code labels n = made ∙ ap (λ l. slot_by (instr_at code n) l n) same in
     record {
       addresses = below.addresses;
       labelled = below.labelled;
-      count = length-push places place ∙ ap (λ k. k + 1) below.count;
+      count = length-push slots slot ∙ ap (λ k. k + 1) below.count;
       each = λ a lt. elim (eqb_tells a n) [
-        | inl last ↦ subst (λ b. slice_get (places ++ place ∷ []) b ≡ Some (place_of code labels b)) (sym last.1) (slice_get-push_last places place n below.count ∙ ap Some right)
-        | inr before ↦ slice_get-push places place _ a (below.each a (let lower : a < n = omega (arith, before.1) in lower))
+        | inl last ↦ subst (λ b. slice_get (slots ++ slot ∷ []) b ≡ Some (slot_of code labels b)) (sym last.1) (slice_get-push_last slots slot n below.count ∙ ap Some right)
+        | inr before ↦ slice_get-push slots slot _ a (below.each a (let lower : a < n = omega (arith, before.1) in lower))
       ];
     }
 
-pub no_places : (code labels : List ℕ) (items table : List (Option Label)) (places : List Place) → length items ≡ 65536 → ((a : ℕ) → a < 65536 → slice_get items a ≡ Some (label_at labels a)) → table ≡ items → places ≡ [] → ArePlacesBelow code labels table 0 places
-no_places code labels items table places addresses labelled same none = record {
+pub no_slots : (code labels : List ℕ) (items table : List (Option Label)) (slots : List Slot) → length items ≡ 65536 → ((a : ℕ) → a < 65536 → slice_get items a ≡ Some (label_at labels a)) → table ≡ items → slots ≡ [] → AreSlotsBelow code labels table 0 slots
+no_slots code labels items table slots addresses labelled same none = record {
   addresses = ap length same ∙ addresses;
   labelled = λ a low. ap (λ l. slice_get l a) same ∙ labelled a low;
   count = ap length none;
   each = λ a low. absurd (omega arith);
 }
 
-pub all_places : (code labels : List ℕ) (table : List (Option Label)) (n : ℕ) (places : List Place) → ArePlacesBelow code labels table n places → n ≡ length table → ArePlaces code labels places
-all_places code labels table n places below all =
+pub all_slots : (code labels : List ℕ) (table : List (Option Label)) (n : ℕ) (slots : List Slot) → AreSlotsBelow code labels table n slots → n ≡ length table → AreSlots code labels slots
+all_slots code labels table n slots below all =
     let whole : n ≡ 65536 = all ∙ below.addresses in
     record {
       count = below.count ∙ whole;

@@ -3,19 +3,20 @@
 -- write it back read its latch.
 use Rattle.std.specs.Prelude.{ℕ, ◌+◌, ◌*◌, ◌/◌, ◌%◌, ◌-◌, List, Option, None, Bool, true, false, if◌then◌else◌, not, ◌&&◌, ◌||◌, nat_eq, nat_lt, nat_le, slice_index, slice_set, bit_and, bit_or, bit_xor}
 use Rattle.cerco_base.specs.declared.events.Port.{Port}
+use Rattle.cerco_base.specs.Bytes.{bit_value, sum_byte, carries, difference_byte, borrows}
 use Rattle.mcs51_isa.specs.declared.instr.Instr.{Instr}
-use Rattle.mcs51_isa.specs.declared.instr.Instr.TheVariants.{Nop, Ajmp, Acall, Long, Return, RotateAcc, StepAcc, StepDirect, StepIndirect, StepRegister, BranchBit, BranchFlag, Sjmp, ArithImmediate, ArithDirect, ArithIndirect, ArithRegister, LogicDirectAcc, LogicDirectImmediate, LogicImmediate, LogicDirect, LogicIndirect, LogicRegister, CarryLogic, JmpIndirect, MovAccImmediate, MovDirectImmediate, MovIndirectImmediate, MovRegisterImmediate, Movc, Multiplier, MovDirectDirect, MovDirectIndirect, MovDirectRegister, MovDptr, MovBitCarry, MovCarryBit, IncDptr, MovIndirectDirect, MovRegisterDirect, ChangeBit, ChangeCarry, CjneImmediate, CjneDirect, CjneIndirect, CjneRegister, Stack, Adjust, XchDirect, XchIndirect, XchRegister, Xchd, DjnzDirect, DjnzRegister, MovxDptr, MovxIndirect, WholeAcc, MovDirect, MovIndirect, MovRegister}
+use Rattle.mcs51_isa.specs.declared.instr.Instr.TheVariants.{Nop, Ajmp, Acall, Long, Ret, RotateAcc, StepAcc, StepDirect, StepIndirect, StepRegister, BranchBit, BranchFlag, Sjmp, ArithImmediate, ArithDirect, ArithIndirect, ArithRegister, LogicDirectAcc, LogicDirectImmediate, LogicImmediate, LogicDirect, LogicIndirect, LogicRegister, CarryLogic, JmpIndirect, MovAccImmediate, MovDirectImmediate, MovIndirectImmediate, MovRegisterImmediate, Movc, Multiplier, MovDirectDirect, MovDirectIndirect, MovDirectRegister, MovDptr, MovBitCarry, MovCarryBit, IncDptr, MovIndirectDirect, MovRegisterDirect, ChangeBit, ChangeCarry, CjneImmediate, CjneDirect, CjneIndirect, CjneRegister, Stack, Adjust, XchDirect, XchIndirect, XchRegister, Xchd, DjnzDirect, DjnzRegister, MovxDptr, MovxIndirect, WholeAcc, MovDirect, MovIndirect, MovRegister}
 use Rattle.mcs51_isa.specs.declared.instr.LongJump.TheVariants.{Ljmp, Lcall}
 use Rattle.mcs51_isa.specs.declared.instr.Rotate.{Rotate}
 use Rattle.mcs51_isa.specs.declared.instr.Rotate.TheVariants.{Rr, Rrc, Rl, Rlc}
-use Rattle.mcs51_isa.specs.declared.instr.Step.{Step}
-use Rattle.mcs51_isa.specs.declared.instr.Step.TheVariants.{Inc, Dec}
+use Rattle.mcs51_isa.specs.declared.instr.ByOne.{ByOne}
+use Rattle.mcs51_isa.specs.declared.instr.ByOne.TheVariants.{Inc, Dec}
 use Rattle.mcs51_isa.specs.declared.instr.BitTest.{BitTest}
 use Rattle.mcs51_isa.specs.declared.instr.BitTest.TheVariants.{Jbc, Jb, Jnb}
 use Rattle.mcs51_isa.specs.declared.instr.FlagTest.{FlagTest}
 use Rattle.mcs51_isa.specs.declared.instr.FlagTest.TheVariants.{Jc, Jnc, Jz, Jnz}
-use Rattle.mcs51_isa.specs.declared.instr.Arith.{Arith}
-use Rattle.mcs51_isa.specs.declared.instr.Arith.TheVariants.{Add, Addc, Subb}
+use Rattle.mcs51_isa.specs.declared.instr.SumOp.{SumOp}
+use Rattle.mcs51_isa.specs.declared.instr.SumOp.TheVariants.{Add, Addc, Subb}
 use Rattle.mcs51_isa.specs.declared.instr.Logic.{Logic}
 use Rattle.mcs51_isa.specs.declared.instr.Logic.TheVariants.{Orl, Anl, Xrl}
 use Rattle.mcs51_isa.specs.declared.instr.CarryOp.{CarryOp}
@@ -29,14 +30,14 @@ use Rattle.mcs51_isa.specs.declared.instr.BitChange.TheVariants.{Cpl, Clr, Setb}
 use Rattle.mcs51_isa.specs.declared.instr.StackOp.TheVariants.{Push, Pop}
 use Rattle.mcs51_isa.specs.declared.instr.Adjustment.{Adjustment}
 use Rattle.mcs51_isa.specs.declared.instr.Adjustment.TheVariants.{Swap, Da}
-use Rattle.mcs51_isa.specs.declared.instr.Transfer.TheVariants.{Load, Store}
+use Rattle.mcs51_isa.specs.declared.instr.Move.TheVariants.{IntoAcc, FromAcc}
 use Rattle.mcs51_isa.specs.declared.instr.Whole.{Whole}
 use Rattle.mcs51_isa.specs.declared.instr.Whole.TheVariants.{ClearAcc, ComplementAcc}
 use Rattle.mcs51_isa.specs.declared.operands.Ind.{Ind}
 use Rattle.mcs51_isa.specs.Operands.{page_target, relative_target}
 use Rattle.sim51.specs.declared.location.Location.{Location}
 use Rattle.sim51.specs.State.{Core}
-use Rattle.sim51.specs.Locations.{bit_value, bit_of, with_bit, location_of, byte_of_bit, held, read_value, after_read, read_event, written, write_event, register, with_register, indirect, with_indirect, external_pointer, dptr, with_dptr, raised, with_top, top, popped, called_from}
+use Rattle.sim51.specs.Locations.{bit_of, with_bit, location_of, byte_of_bit, held, read_value, after_read, read_event, written, write_event, register, with_register, indirect, with_indirect, external_pointer, dptr, with_dptr, raised, with_top, top, popped, called_from}
 
 -- what is held after an instruction, the address that it goes on at, and the byte of a port that it reads and writes
 pub record Effect : Type 0 where
@@ -57,13 +58,6 @@ reads before l pc c = record { core = c; pc = pc; read = read_event before l; wr
 abbrev pub writes : Location → ℕ → ℕ → Core → Effect
 writes l byte pc c = record { core = written c l byte; pc = pc; read = None; write = write_event l byte }
 
--- the carry out of the bit below a power of two, in a sum of two bytes and a carry, and the borrow there in a difference
-abbrev pub carries : ℕ → ℕ → ℕ → Bool → Bool
-carries power a b carry = nat_le power (a % power + b % power + bit_value carry)
-
-abbrev pub borrows : ℕ → ℕ → ℕ → Bool → Bool
-borrows power a b borrow = nat_lt (a % power) (b % power + bit_value borrow)
-
 abbrev pub differ : Bool → Bool → Bool
 differ true q = not q
 differ false q = q
@@ -72,7 +66,7 @@ differ false q = q
 abbrev pub added : Core → ℕ → Bool → Core
 added c byte carry =
     record c {
-      acc = (c.acc + byte + bit_value carry) % 256;
+      acc = sum_byte c.acc byte carry;
       cy = carries 256 c.acc byte carry;
       ac = carries 16 c.acc byte carry;
       ov = differ (carries 256 c.acc byte carry) (carries 128 c.acc byte carry);
@@ -82,13 +76,13 @@ added c byte carry =
 abbrev pub subtracted : Core → ℕ → Core
 subtracted c byte =
     record c {
-      acc = (c.acc + 256 - (byte + bit_value c.cy)) % 256;
+      acc = difference_byte c.acc byte c.cy;
       cy = borrows 256 c.acc byte c.cy;
       ac = borrows 16 c.acc byte c.cy;
       ov = differ (borrows 256 c.acc byte c.cy) (borrows 128 c.acc byte c.cy);
     }
 
-abbrev pub arithmetic : Arith → Core → ℕ → Core
+abbrev pub arithmetic : SumOp → Core → ℕ → Core
 arithmetic Add c byte = added c byte false
 arithmetic Addc c byte = added c byte c.cy
 arithmetic Subb c byte = subtracted c byte
@@ -104,7 +98,7 @@ carry_logical AnlBit carry bit = carry && bit
 carry_logical OrlNotBit carry bit = carry || not bit
 carry_logical AnlNotBit carry bit = carry && not bit
 
-abbrev pub stepped : Step → ℕ → ℕ
+abbrev pub stepped : ByOne → ℕ → ℕ
 stepped Inc byte = (byte + 1) % 256
 stepped Dec byte = (byte + 255) % 256
 
@@ -188,7 +182,7 @@ effect code (Ajmp t) next c = goes_to (page_target next t) c
 effect code (Acall t) next c = goes_to (page_target next t) (called_from c next)
 effect code (Long Ljmp w) next c = goes_to w c
 effect code (Long Lcall w) next c = goes_to w (called_from c next)
-effect code (Return op) next c = goes_to (256 * top c + top (popped c)) (popped (popped c))
+effect code (Ret op) next c = goes_to (256 * top c + top (popped c)) (popped (popped c))
 effect code (RotateAcc op) next c = goes_to next (rotated op c)
 effect code (StepAcc op) next c = goes_to next (record c { acc = stepped op c.acc })
 effect code (StepDirect op d) next c = let l = location_of d in writes l (stepped op (held c l)) next c
@@ -251,14 +245,14 @@ effect code (DjnzDirect d o) next c =
     writes l byte (if nat_eq byte 0 then next else relative_target next o) c
 effect code (DjnzRegister r o) next c =
     let byte = stepped Dec (register c r) in goes_to (if nat_eq byte 0 then next else relative_target next o) (with_register c r byte)
-effect code (MovxDptr Load) next c = goes_to next (record c { acc = slice_index c.xram (dptr c) })
-effect code (MovxDptr Store) next c = goes_to next (record c { xram = slice_set c.xram (dptr c) c.acc })
-effect code (MovxIndirect Load i) next c = goes_to next (record c { acc = slice_index c.xram (external_pointer c i) })
-effect code (MovxIndirect Store i) next c = goes_to next (record c { xram = slice_set c.xram (external_pointer c i) c.acc })
+effect code (MovxDptr IntoAcc) next c = goes_to next (record c { acc = slice_index c.xram (dptr c) })
+effect code (MovxDptr FromAcc) next c = goes_to next (record c { xram = slice_set c.xram (dptr c) c.acc })
+effect code (MovxIndirect IntoAcc i) next c = goes_to next (record c { acc = slice_index c.xram (external_pointer c i) })
+effect code (MovxIndirect FromAcc i) next c = goes_to next (record c { xram = slice_set c.xram (external_pointer c i) c.acc })
 effect code (WholeAcc op) next c = goes_to next (record c { acc = whole_byte op c.acc })
-effect code (MovDirect Load d) next c = let l = location_of d in reads c l next (record (after_read c l) { acc = read_value c l })
-effect code (MovDirect Store d) next c = writes (location_of d) c.acc next c
-effect code (MovIndirect Load i) next c = goes_to next (record c { acc = indirect c i })
-effect code (MovIndirect Store i) next c = goes_to next (with_indirect c i c.acc)
-effect code (MovRegister Load r) next c = goes_to next (record c { acc = register c r })
-effect code (MovRegister Store r) next c = goes_to next (with_register c r c.acc)
+effect code (MovDirect IntoAcc d) next c = let l = location_of d in reads c l next (record (after_read c l) { acc = read_value c l })
+effect code (MovDirect FromAcc d) next c = writes (location_of d) c.acc next c
+effect code (MovIndirect IntoAcc i) next c = goes_to next (record c { acc = indirect c i })
+effect code (MovIndirect FromAcc i) next c = goes_to next (with_indirect c i c.acc)
+effect code (MovRegister IntoAcc r) next c = goes_to next (record c { acc = register c r })
+effect code (MovRegister FromAcc r) next c = goes_to next (with_register c r c.acc)

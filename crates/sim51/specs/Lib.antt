@@ -3,5 +3,5 @@ pub mod Locations
 pub mod Effect
 pub mod Step
 pub mod Runs
-pub mod Places
+pub mod Code
 pub mod Placed

@@ -3,17 +3,14 @@
 use Rattle.std.specs.Prelude.{ℕ, ◌+◌, ◌*◌, ◌/◌, ◌%◌, ◌-◌, ◌^◌, List, [], ◌∷◌, Option, Some, None, Bool, true, false, if◌then◌else◌, nat_eq, nat_lt, slice_index, slice_set, drop, count_ones, bit_or, bit_and}
 use Rattle.cerco_base.specs.declared.events.Port.{Port}
 use Rattle.cerco_base.specs.declared.events.Port.TheVariants.{P0, P1, P2, P3}
+use Rattle.cerco_base.specs.Bytes.{bit_value}
+use Rattle.cerco_base.specs.Ports.{port_number}
 use Rattle.mcs51_isa.specs.declared.operands.Reg.{Reg}
 use Rattle.mcs51_isa.specs.declared.operands.Ind.{Ind}
 use Rattle.mcs51_isa.specs.Operands.{reg_number, ind_number}
 use Rattle.sim51.specs.declared.location.Location.{Location}
 use Rattle.sim51.specs.declared.location.Location.TheVariants.{Ram, Latch, Acc, B, Psw, Sp, Dpl, Dph, Other}
 use Rattle.sim51.specs.State.{Core}
-
--- a bit as a number
-abbrev pub bit_value : Bool → ℕ
-bit_value true = 1
-bit_value false = 0
 
 -- bit k of a byte
 abbrev pub bit_of : ℕ → ℕ → Bool
@@ -60,13 +57,7 @@ location_of a = if nat_lt a 0x80 then Ram a else special_at a
 abbrev pub byte_of_bit : ℕ → ℕ
 byte_of_bit bit = if nat_lt bit 0x80 then 0x20 + bit / 8 else bit - bit % 8
 
--- the place of a port's latch among the four, and its direct address
-abbrev pub port_number : Port → ℕ
-port_number P0 = 0
-port_number P1 = 1
-port_number P2 = 2
-port_number P3 = 3
-
+-- the direct address of a port's latch
 abbrev pub port_address : Port → ℕ
 port_address P0 = 0x80
 port_address P1 = 0x90

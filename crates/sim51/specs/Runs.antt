@@ -1,13 +1,14 @@
 -- The runs of object code: the machine from reset, with the events that it has made so far.
-use Rattle.std.specs.Prelude.{ℕ, List, [], ◌∷◌, ◌++◌, Option, Some, None, Bool, true, false, is_some}
+use Rattle.std.specs.Prelude.{ℕ, zero, suc, List, [], ◌∷◌, ◌++◌, Option, Some, None, Bool, true, false, is_some, map}
 use Rattle.cerco_base.specs.declared.events.Label.{Label}
 use Rattle.cerco_base.specs.declared.events.Port.{Port}
 use Rattle.cerco_base.specs.declared.events.Event.{Event}
 use Rattle.cerco_base.specs.declared.events.Event.TheVariants.{Read, Write}
 use Rattle.cerco_base.specs.Events.{label}
 use Rattle.cerco_traces.specs.Systems.{System}
+use Rattle.cerco_traces.specs.Headline.{after}
 use Rattle.sim51.specs.declared.events.Events.{Events}
-use Rattle.sim51.specs.State.{State, reset}
+use Rattle.sim51.specs.State.{State, LoadedMachine, reset}
 use Rattle.sim51.specs.Step.{Moved, Halts, Reserved, Goes, step}
 
 -- the events of a step as a list: the label, then the port that is read, then the one that is written
@@ -63,3 +64,36 @@ object code labels =
 
 abbrev pub cycles_of_run : Running → ℕ
 cycles_of_run r = r.state.cycles
+
+-- the events that a step makes
+abbrev pub made_by : Moved → List Event
+made_by Halts = []
+made_by Reserved = []
+made_by (Goes e s) = events_of e
+
+-- a machine's code, the addresses of its labels, and the bytes that its ports' pins show
+pub record Setup : Type 0 where
+  pub code : List ℕ
+  pub labels : List ℕ
+  pub script : List ℕ
+
+-- those of a machine, as it is now
+abbrev pub setup_of : LoadedMachine → Setup
+setup_of m = record { code = m.code; labels = m.labels; script = m.state.core.script }
+
+-- the state after k steps from reset
+unfoldable pub state_after : Setup → ℕ → State
+state_after m k = (after (object m.code m.labels) k ((object m.code m.labels).start m.script)).state
+
+-- the step from there
+abbrev pub step_after : Setup → ℕ → Moved
+step_after m k = step m.code m.labels (state_after m k)
+
+-- an event and the cycles before the instruction that makes it
+abbrev pub TimedEvent : Type 0
+TimedEvent = ℕ × Event
+
+-- the events of the first k steps, oldest first
+unfoldable pub trace : Setup → ℕ → List TimedEvent
+trace m zero = []
+trace m (suc k) = trace m k ++ map (λ event. ((state_after m k).cycles, event)) (made_by (step_after m k))

@@ -56,3 +56,9 @@ reset_core script =
 
 abbrev pub reset : List ℕ → State
 reset script = record { core = reset_core script; pc = 0; cycles = 0 }
+
+-- a machine with its code, the addresses of its labels, and its state
+pub record LoadedMachine : Type 0 where
+  pub code : List ℕ
+  pub labels : List ℕ
+  pub state : State

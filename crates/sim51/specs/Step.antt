@@ -1,5 +1,5 @@
 -- One step of the machine (Intel, MCS-51 family). That a jump to itself halts is this project's own: the device would repeat it.
-use Rattle.std.specs.Prelude.{ℕ, ◌+◌, ◌%◌, List, Option, Some, None, Bool, false, if◌then◌else◌, nat_eq, ◌==◌, length, position, option_map}
+use Rattle.std.specs.Prelude.{◌≡◌, ℕ, ◌+◌, ◌%◌, List, Option, Some, None, Bool, false, if◌then◌else◌, nat_eq, ◌==◌, length, position, option_map}
 use Rattle.cerco_base.specs.declared.events.Label.{Label}
 use Rattle.mcs51_isa.specs.declared.instr.Instr.{Instr}
 use Rattle.mcs51_isa.specs.declared.instr.Instr.TheVariants.{Ajmp, Sjmp, Long}
@@ -8,6 +8,7 @@ use Rattle.mcs51_isa.specs.Operands.{page_target, relative_target}
 use Rattle.mcs51_isa.specs.Table.{encode_of, cycles_of}
 use Rattle.mcs51_isa.specs.Decoding.{decode_of}
 use Rattle.sim51.specs.declared.events.Events.{Events}
+use Rattle.sim51.specs.declared.events.Step.{Step}
 use Rattle.sim51.specs.State.{State}
 use Rattle.sim51.specs.Effect.{effect, code_at}
 
@@ -55,3 +56,15 @@ moved_by code labels (Some i) s = if halts i s.pc then Halts else made code labe
 -- the step over this code, whose labels stand at these addresses
 unfoldable pub step : List ℕ → List ℕ → State → Moved
 step code labels s = moved_by code labels (instr_at code s.pc) s
+
+-- a step's answer and the state after it, in these words
+abbrev pub moved : Step → State → Moved
+moved Step.Halted s = Halts
+moved Step.Reserved s = Reserved
+moved (Step.Went e) s = Goes e s
+
+-- a step that goes nowhere changes nothing
+abbrev pub KeepsState : Step → State → State → Type 0
+KeepsState Step.Halted old new = new ≡ old
+KeepsState Step.Reserved old new = new ≡ old
+KeepsState (Step.Went e) old new = Unit {0}

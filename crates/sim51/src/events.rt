@@ -3,7 +3,7 @@
 use cerco_base::{Label, Port};
 
 /// The events of a step, in this order. An instruction reads one port at most, and writes one.
-#[derive(Clone, Copy, Debug, PartialEq, Eq)]
+#[derive(Clone, Copy)]
 pub struct Events {
     /// The label that is passed, where one stands at the instruction's address.
     pub label: Option<Label>,
@@ -14,7 +14,7 @@ pub struct Events {
 }
 
 /// What a step came to.
-#[derive(Clone, Copy, Debug, PartialEq, Eq)]
+#[derive(Clone, Copy)]
 pub enum Step {
     /// An instruction was made, with these events.
     Went(Events),

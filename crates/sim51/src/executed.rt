@@ -16,9 +16,16 @@ impl Executed {
     pub(crate) fn at(pc: u16) -> Executed
         ensures { result ≡ record { pc = pc; read = None; write = None } }
     {
+        Executed::reading(pc, None)
+    }
+
+    /// The machine goes on at this address, and maybe read this port. None was written.
+    pub(crate) fn reading(pc: u16, read: Option<(Port, u8)>) -> Executed
+        ensures { result ≡ record { pc = pc; read = read; write = None } }
+    {
         Executed {
             pc,
-            read: None,
+            read,
             write: None,
         }
     }

@@ -8,10 +8,8 @@ mod executed;
 mod location;
 pub mod machine;
 mod operations;
-mod places;
 mod processor;
-#[cfg(test)]
-mod tests;
+mod slots;
 
 pub use events::{Events, Step};
 pub use machine::Machine;

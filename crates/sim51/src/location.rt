@@ -1,6 +1,7 @@
 //! What direct addresses and bit addresses name.
 ghost use Rattle.std.specs.Prelude.{◌≡◌, ◌<◌};
-ghost use Rattle.sim51.specs.Locations.{bit_value, bit_of, with_bit, location_of, special_at, byte_of_bit, port_number};
+ghost use Rattle.cerco_base.specs.Bytes.{bit_value};
+ghost use Rattle.sim51.specs.Locations.{bit_of, with_bit, location_of, special_at, byte_of_bit};
 
 use cerco_base::Port;
 
@@ -61,19 +62,6 @@ pub(crate) fn bit_location(bit: u8) -> Location
         bit - bit % 8
     };
     location_of(byte)
-}
-
-/// The number of a port, 0 to 3.
-pub(crate) fn port_number(port: Port) -> u8
-    ensures value { result ≡ port_number port }
-    ensures below { result < 4 }
-{
-    match port {
-        Port::P0 => 0,
-        Port::P1 => 1,
-        Port::P2 => 2,
-        Port::P3 => 3,
-    }
 }
 
 /// A bit as a number.

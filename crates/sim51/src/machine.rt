@@ -3,13 +3,12 @@ ghost use Rattle.std.specs.Prelude.{◌≡◌, ◌<◌, ◌≤◌, ◌^◌, leng
 ghost use Rattle.std.specs.List.{IsDistinct};
 ghost use Rattle.cerco_traces.specs.Headline.{ArrivesOnce};
 ghost use Rattle.sim51.specs.State.{reset};
-ghost use Rattle.sim51.specs.Step.{step};
+ghost use Rattle.sim51.specs.Step.{step, moved, KeepsState};
 ghost use Rattle.sim51.specs.Runs.{object, cycles_of_run};
-ghost use Rattle.sim51.specs.Places.{moved, KeepsState};
 
 use crate::events::{Events, Step};
-use crate::places::{Place, places};
 use crate::processor::Processor;
+use crate::slots::{Slot, slots};
 use cerco_base::NoMemory;
 use std::alloc::Global;
 use std::marker::Model;
@@ -20,14 +19,15 @@ use std::marker::Model;
 pub struct Machine<'a> {
     code: Vec<u8>,
     labels: Vec<u16>,
-    places: Vec<Place>,
+    slots: Vec<Slot>,
     processor: Processor<'a>,
     pc: u16,
     cycles: u64,
 }
 
 impl<'a> Model for Machine<'a> {
-    ghost use Rattle.sim51.specs.Places.{LoadedMachine, ArePlaces};
+    ghost use Rattle.sim51.specs.State.{LoadedMachine};
+    ghost use Rattle.sim51.specs.Code.Slots.{AreSlots};
 
     ghost Value = { LoadedMachine };
 
@@ -37,7 +37,7 @@ impl<'a> Model for Machine<'a> {
       state = record { core = m.processor; pc = m.pc; cycles = m.cycles };
     } };
 
-    ghost invariant = { λ m. ArePlaces m.code.items m.labels.items m.places.items };
+    ghost invariant = { λ m. AreSlots m.code.items m.labels.items m.slots.items };
 }
 
 impl<'a> Machine<'a> {
@@ -54,12 +54,12 @@ impl<'a> Machine<'a> {
         // whatever script it runs on, it comes to an n-th stop in one way at most
         ensures arrives_once { ArrivesOnce (object code.now labels.now) cycles_of_run }
     {
-        let places = places(alloc, code, labels)?;
+        let slots = slots(alloc, code, labels)?;
         let processor = Processor::reset(alloc, script)?;
         Ok(Machine {
             code: code.to_vec(alloc)?,
             labels: labels.to_vec(alloc)?,
-            places,
+            slots,
             processor,
             pc: 0,
             cycles: 0,
@@ -74,10 +74,10 @@ impl<'a> Machine<'a> {
         ensures moved { step self.old.code self.old.labels self.old.state ≡ moved result self.new.state }
         ensures keeps_state { KeepsState result self.old.state self.new.state }
     {
-        match self.places[self.pc as usize] {
-            Place::Halt => Step::Halted,
-            Place::Reserved => Step::Reserved,
-            Place::Runs(planned) => {
+        match self.slots[self.pc as usize] {
+            Slot::Halt => Step::Halted,
+            Slot::Reserved => Step::Reserved,
+            Slot::Runs(planned) => {
                 let executed = self
                     .processor
                     .execute(&self.code, planned.instr, planned.next);

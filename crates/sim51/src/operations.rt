@@ -2,7 +2,7 @@
 ghost use Rattle.std.specs.Prelude.{◌≡◌};
 ghost use Rattle.sim51.specs.Effect.{logical, carry_logical, stepped, changed, whole_byte};
 
-use mcs51_isa::{BitChange, CarryOp, Logic, Step, Whole};
+use mcs51_isa::{BitChange, ByOne, CarryOp, Logic, Whole};
 
 pub(crate) fn logical(op: Logic, a: u8, b: u8) -> u8
     ensures { result ≡ logical op a b }
@@ -26,12 +26,12 @@ pub(crate) fn carry_logical(op: CarryOp, carry: bool, bit: bool) -> bool
 }
 
 /// The byte increased or decreased by 1, modulo 256.
-pub(crate) fn stepped(op: Step, byte: u8) -> u8
+pub(crate) fn stepped(op: ByOne, byte: u8) -> u8
     ensures { result ≡ stepped op byte }
 {
     match op {
-        Step::Inc => byte.wrapping_add(1),
-        Step::Dec => byte.wrapping_add(255),
+        ByOne::Inc => byte.wrapping_add(1),
+        ByOne::Dec => byte.wrapping_add(255),
     }
 }
 

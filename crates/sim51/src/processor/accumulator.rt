@@ -3,12 +3,12 @@
 use super::Processor;
 use crate::executed::Executed;
 use crate::operations::{changed, logical, stepped, whole_byte};
-use mcs51_isa::{Adjustment, Arith, BitChange, Instr, Logic, MulDiv, Rotate, Step, Whole};
+use mcs51_isa::{Adjustment, BitChange, ByOne, Instr, Logic, MulDiv, Rotate, SumOp, Whole};
 
 impl<'a> Processor<'a> {
     ghost use Rattle.std.specs.Prelude.{◌≡◌, []};
     ghost use Rattle.sim51.specs.Effect.{effect};
-    ghost use Rattle.sim51.specs.Places.{effect_of};
+    ghost use Rattle.sim51.specs.Code.Slots.{effect_of};
 
     pub(super) fn rotate_acc(&mut self, op: Rotate, next: u16) -> Executed
         ensures { effect_of self.new result ≡ effect [] (Instr.RotateAcc op) next self.old }
@@ -17,14 +17,14 @@ impl<'a> Processor<'a> {
         Executed::at(next)
     }
 
-    pub(super) fn step_acc(&mut self, op: Step, next: u16) -> Executed
+    pub(super) fn step_acc(&mut self, op: ByOne, next: u16) -> Executed
         ensures { effect_of self.new result ≡ effect [] (Instr.StepAcc op) next self.old }
     {
         self.acc = stepped(op, self.acc);
         Executed::at(next)
     }
 
-    pub(super) fn arith_immediate(&mut self, op: Arith, value: u8, next: u16) -> Executed
+    pub(super) fn arith_immediate(&mut self, op: SumOp, value: u8, next: u16) -> Executed
         ensures { effect_of self.new result ≡ effect [] (Instr.ArithImmediate op value) next self.old }
     {
         self.arithmetic(op, value);

@@ -2,46 +2,47 @@
 
 use super::Processor;
 use crate::location::{bit_of, bit_value};
-use mcs51_isa::{Adjustment, Arith, MulDiv, Rotate};
+use cerco_base::{add_carry, sub_borrow};
+use mcs51_isa::{Adjustment, MulDiv, Rotate, SumOp};
 
 impl<'a> Processor<'a> {
     ghost use Rattle.std.specs.Prelude.{◌≡◌};
     ghost use Rattle.sim51.specs.Effect.{added, subtracted, arithmetic, rotated, multiplied, low_adjusted, high_adjusted, adjusted};
 
+    #[tactic(auto, unfolding(cerco_base::specs::Bytes::carries))]
     fn add(&mut self, byte: u8, carry: bool)
         ensures { self.new ≡ added self.old byte carry }
     {
+        let (sum, out) = add_carry(self.acc, byte, carry);
         let carry = bit_value(carry) as u16;
-        let sum = self.acc as u16 + byte as u16 + carry;
-        let out = sum >= 256;
         let into_top = (self.acc % 128) as u16 + (byte % 128) as u16 + carry >= 128;
         self.ac = (self.acc % 16) as u16 + (byte % 16) as u16 + carry >= 16;
         self.cy = out;
         self.ov = out != into_top;
-        self.acc = (sum % 256) as u8;
+        self.acc = sum;
     }
 
+    #[tactic(auto, unfolding(cerco_base::specs::Bytes::borrows))]
     fn subtract(&mut self, byte: u8)
         ensures { self.new ≡ subtracted self.old byte }
     {
+        let (difference, out) = sub_borrow(self.acc, byte, self.cy);
         let borrow = bit_value(self.cy) as u16;
-        let out = (self.acc as u16) < byte as u16 + borrow;
         let from_top = ((self.acc % 128) as u16) < (byte % 128) as u16 + borrow;
-        let difference = self.acc as u16 + 256 - (byte as u16 + borrow);
         self.ac = ((self.acc % 16) as u16) < (byte % 16) as u16 + borrow;
         self.cy = out;
         self.ov = out != from_top;
-        self.acc = (difference % 256) as u8;
+        self.acc = difference;
     }
 
     /// A sum or difference of the accumulator and a byte.
-    pub(super) fn arithmetic(&mut self, op: Arith, byte: u8)
+    pub(super) fn arithmetic(&mut self, op: SumOp, byte: u8)
         ensures { self.new ≡ arithmetic op self.old byte }
     {
         match op {
-            Arith::Add => self.add(byte, false),
-            Arith::Addc => self.add(byte, self.cy),
-            Arith::Subb => self.subtract(byte),
+            SumOp::Add => self.add(byte, false),
+            SumOp::Addc => self.add(byte, self.cy),
+            SumOp::Subb => self.subtract(byte),
         }
     }
 

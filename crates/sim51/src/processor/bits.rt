@@ -9,7 +9,7 @@ use mcs51_isa::{BitChange, BitTest, CarryOp, Instr};
 impl<'a> Processor<'a> {
     ghost use Rattle.std.specs.Prelude.{◌≡◌, []};
     ghost use Rattle.sim51.specs.Effect.{effect, branches_on_bit};
-    ghost use Rattle.sim51.specs.Places.{effect_of};
+    ghost use Rattle.sim51.specs.Code.Slots.{effect_of};
 
     pub(super) fn carry_logic(&mut self, op: CarryOp, bit: u8, next: u16) -> Executed
         ensures { effect_of self.new result ≡ effect [] (Instr.CarryLogic op bit) next self.old }
@@ -17,11 +17,7 @@ impl<'a> Processor<'a> {
         let carry = self.cy;
         let (byte, read) = self.read(bit_location(bit));
         self.cy = carry_logical(op, carry, bit_of(byte, bit % 8));
-        Executed {
-            pc: next,
-            read,
-            write: None,
-        }
+        Executed::reading(next, read)
     }
 
     pub(super) fn mov_carry_bit(&mut self, bit: u8, next: u16) -> Executed
@@ -29,11 +25,7 @@ impl<'a> Processor<'a> {
     {
         let (byte, read) = self.read(bit_location(bit));
         self.cy = bit_of(byte, bit % 8);
-        Executed {
-            pc: next,
-            read,
-            write: None,
-        }
+        Executed::reading(next, read)
     }
 
     pub(super) fn mov_bit_carry(&mut self, bit: u8, next: u16) -> Executed

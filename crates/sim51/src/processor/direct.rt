@@ -4,13 +4,13 @@ use super::Processor;
 use crate::executed::Executed;
 use crate::location::{Location, location_of};
 use crate::operations::{logical, stepped};
-use mcs51_isa::{Arith, Ind, Instr, Logic, Reg, StackOp, Step, Transfer};
+use mcs51_isa::{ByOne, Ind, Instr, Logic, Move, Reg, StackOp, SumOp};
 
 impl<'a> Processor<'a> {
     ghost use Rattle.std.specs.Prelude.{◌≡◌, []};
     ghost use Rattle.sim51.specs.Effect.{effect, writes, exchanged};
     ghost use Rattle.sim51.specs.Locations.{read_event, write_event};
-    ghost use Rattle.sim51.specs.Places.{effect_of};
+    ghost use Rattle.sim51.specs.Code.Slots.{effect_of};
 
     /// Writes a byte at a location and goes on.
     pub(super) fn write_and_go(&mut self, location: Location, byte: u8, pc: u16) -> Executed
@@ -24,7 +24,7 @@ impl<'a> Processor<'a> {
         }
     }
 
-    pub(super) fn step_direct(&mut self, op: Step, direct: u8, next: u16) -> Executed
+    pub(super) fn step_direct(&mut self, op: ByOne, direct: u8, next: u16) -> Executed
         ensures { effect_of self.new result ≡ effect [] (Instr.StepDirect op direct) next self.old }
     {
         let location = location_of(direct);
@@ -32,16 +32,12 @@ impl<'a> Processor<'a> {
         self.write_and_go(location, byte, next)
     }
 
-    pub(super) fn arith_direct(&mut self, op: Arith, direct: u8, next: u16) -> Executed
+    pub(super) fn arith_direct(&mut self, op: SumOp, direct: u8, next: u16) -> Executed
         ensures { effect_of self.new result ≡ effect [] (Instr.ArithDirect op direct) next self.old }
     {
         let (byte, read) = self.read(location_of(direct));
         self.arithmetic(op, byte);
-        Executed {
-            pc: next,
-            read,
-            write: None,
-        }
+        Executed::reading(next, read)
     }
 
     pub(super) fn logic_direct_acc(&mut self, op: Logic, direct: u8, next: u16) -> Executed
@@ -72,11 +68,7 @@ impl<'a> Processor<'a> {
         let acc = self.acc;
         let (byte, read) = self.read(location_of(direct));
         self.acc = logical(op, acc, byte);
-        Executed {
-            pc: next,
-            read,
-            write: None,
-        }
+        Executed::reading(next, read)
     }
 
     pub(super) fn mov_direct_immediate(&mut self, direct: u8, value: u8, next: u16) -> Executed
@@ -112,19 +104,15 @@ impl<'a> Processor<'a> {
     }
 
     pub(super) fn load_direct(&mut self, direct: u8, next: u16) -> Executed
-        ensures { effect_of self.new result ≡ effect [] (Instr.MovDirect Transfer.Load direct) next self.old }
+        ensures { effect_of self.new result ≡ effect [] (Instr.MovDirect Move.IntoAcc direct) next self.old }
     {
         let (byte, read) = self.read(location_of(direct));
         self.acc = byte;
-        Executed {
-            pc: next,
-            read,
-            write: None,
-        }
+        Executed::reading(next, read)
     }
 
     pub(super) fn store_direct(&mut self, direct: u8, next: u16) -> Executed
-        ensures { effect_of self.new result ≡ effect [] (Instr.MovDirect Transfer.Store direct) next self.old }
+        ensures { effect_of self.new result ≡ effect [] (Instr.MovDirect Move.FromAcc direct) next self.old }
     {
         let acc = self.acc;
         self.write_and_go(location_of(direct), acc, next)
@@ -156,11 +144,7 @@ impl<'a> Processor<'a> {
         self.raise();
         let (byte, read) = self.read(location_of(direct));
         self.set_top(byte);
-        Executed {
-            pc: next,
-            read,
-            write: None,
-        }
+        Executed::reading(next, read)
     }
 
     pub(super) fn pop_direct(&mut self, direct: u8, next: u16) -> Executed

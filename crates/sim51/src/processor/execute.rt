@@ -2,12 +2,12 @@
 
 use super::Processor;
 use crate::executed::Executed;
-use mcs51_isa::{Instr, LongJump, StackOp, Transfer, relative_target};
+use mcs51_isa::{Instr, LongJump, Move, StackOp, relative_target};
 
 impl<'a> Processor<'a> {
     ghost use Rattle.std.specs.Prelude.{◌≡◌};
     ghost use Rattle.sim51.specs.Effect.{effect};
-    ghost use Rattle.sim51.specs.Places.{effect_of};
+    ghost use Rattle.sim51.specs.Code.Slots.{effect_of};
 
     /// Makes the effect of an instruction of this code, where `next` is the address behind it.
     pub(crate) fn execute(&mut self, code: &[u8], instr: Instr, next: u16) -> Executed
@@ -19,7 +19,7 @@ impl<'a> Processor<'a> {
             Instr::Acall(target) => self.acall(target, next),
             Instr::Long(LongJump::Ljmp, target) => Executed::at(target),
             Instr::Long(LongJump::Lcall, target) => self.lcall(target, next),
-            Instr::Return(kind) => self.return_from(kind, next),
+            Instr::Ret(kind) => self.return_from(kind, next),
             Instr::RotateAcc(op) => self.rotate_acc(op, next),
             Instr::StepAcc(op) => self.step_acc(op, next),
             Instr::StepDirect(op, direct) => self.step_direct(op, direct, next),
@@ -86,17 +86,17 @@ impl<'a> Processor<'a> {
             Instr::Xchd(ind) => self.xchd(ind, next),
             Instr::DjnzDirect(direct, offset) => self.djnz_direct(direct, offset, next),
             Instr::DjnzRegister(reg, offset) => self.djnz_register(reg, offset, next),
-            Instr::MovxDptr(Transfer::Load) => self.load_external(next),
-            Instr::MovxDptr(Transfer::Store) => self.store_external(next),
-            Instr::MovxIndirect(Transfer::Load, ind) => self.load_external_indirect(ind, next),
-            Instr::MovxIndirect(Transfer::Store, ind) => self.store_external_indirect(ind, next),
+            Instr::MovxDptr(Move::IntoAcc) => self.load_external(next),
+            Instr::MovxDptr(Move::FromAcc) => self.store_external(next),
+            Instr::MovxIndirect(Move::IntoAcc, ind) => self.load_external_indirect(ind, next),
+            Instr::MovxIndirect(Move::FromAcc, ind) => self.store_external_indirect(ind, next),
             Instr::WholeAcc(op) => self.whole_acc(op, next),
-            Instr::MovDirect(Transfer::Load, direct) => self.load_direct(direct, next),
-            Instr::MovDirect(Transfer::Store, direct) => self.store_direct(direct, next),
-            Instr::MovIndirect(Transfer::Load, ind) => self.load_indirect(ind, next),
-            Instr::MovIndirect(Transfer::Store, ind) => self.store_indirect(ind, next),
-            Instr::MovRegister(Transfer::Load, reg) => self.load_register(reg, next),
-            Instr::MovRegister(Transfer::Store, reg) => self.store_register(reg, next),
+            Instr::MovDirect(Move::IntoAcc, direct) => self.load_direct(direct, next),
+            Instr::MovDirect(Move::FromAcc, direct) => self.store_direct(direct, next),
+            Instr::MovIndirect(Move::IntoAcc, ind) => self.load_indirect(ind, next),
+            Instr::MovIndirect(Move::FromAcc, ind) => self.store_indirect(ind, next),
+            Instr::MovRegister(Move::IntoAcc, reg) => self.load_register(reg, next),
+            Instr::MovRegister(Move::FromAcc, reg) => self.store_register(reg, next),
         }
     }
 }

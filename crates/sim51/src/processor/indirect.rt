@@ -4,14 +4,14 @@ use super::Processor;
 use crate::executed::Executed;
 use crate::location::location_of;
 use crate::operations::{logical, stepped};
-use mcs51_isa::{Arith, Ind, Instr, Logic, Step, Transfer};
+use mcs51_isa::{ByOne, Ind, Instr, Logic, Move, SumOp};
 
 impl<'a> Processor<'a> {
     ghost use Rattle.std.specs.Prelude.{◌≡◌, []};
     ghost use Rattle.sim51.specs.Effect.{effect};
-    ghost use Rattle.sim51.specs.Places.{effect_of};
+    ghost use Rattle.sim51.specs.Code.Slots.{effect_of};
 
-    pub(super) fn step_indirect(&mut self, op: Step, ind: Ind, next: u16) -> Executed
+    pub(super) fn step_indirect(&mut self, op: ByOne, ind: Ind, next: u16) -> Executed
         ensures { effect_of self.new result ≡ effect [] (Instr.StepIndirect op ind) next self.old }
     {
         let byte = stepped(op, self.indirect(ind));
@@ -19,7 +19,7 @@ impl<'a> Processor<'a> {
         Executed::at(next)
     }
 
-    pub(super) fn arith_indirect(&mut self, op: Arith, ind: Ind, next: u16) -> Executed
+    pub(super) fn arith_indirect(&mut self, op: SumOp, ind: Ind, next: u16) -> Executed
         ensures { effect_of self.new result ≡ effect [] (Instr.ArithIndirect op ind) next self.old }
     {
         let byte = self.indirect(ind);
@@ -46,22 +46,18 @@ impl<'a> Processor<'a> {
     {
         let (byte, read) = self.read(location_of(direct));
         self.set_indirect(ind, byte);
-        Executed {
-            pc: next,
-            read,
-            write: None,
-        }
+        Executed::reading(next, read)
     }
 
     pub(super) fn load_indirect(&mut self, ind: Ind, next: u16) -> Executed
-        ensures { effect_of self.new result ≡ effect [] (Instr.MovIndirect Transfer.Load ind) next self.old }
+        ensures { effect_of self.new result ≡ effect [] (Instr.MovIndirect Move.IntoAcc ind) next self.old }
     {
         self.acc = self.indirect(ind);
         Executed::at(next)
     }
 
     pub(super) fn store_indirect(&mut self, ind: Ind, next: u16) -> Executed
-        ensures { effect_of self.new result ≡ effect [] (Instr.MovIndirect Transfer.Store ind) next self.old }
+        ensures { effect_of self.new result ≡ effect [] (Instr.MovIndirect Move.FromAcc ind) next self.old }
     {
         self.set_indirect(ind, self.acc);
         Executed::at(next)

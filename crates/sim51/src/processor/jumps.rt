@@ -4,12 +4,12 @@ use super::Processor;
 use crate::executed::Executed;
 use crate::location::location_of;
 use crate::operations::stepped;
-use mcs51_isa::{Addr11, FlagTest, Ind, Instr, LongJump, Reg, ReturnKind, Step, relative_target};
+use mcs51_isa::{Addr11, ByOne, FlagTest, Ind, Instr, LongJump, Reg, ReturnKind, relative_target};
 
 impl<'a> Processor<'a> {
     ghost use Rattle.std.specs.Prelude.{◌≡◌, []};
     ghost use Rattle.sim51.specs.Effect.{effect, compares, flag_holds};
-    ghost use Rattle.sim51.specs.Places.{effect_of};
+    ghost use Rattle.sim51.specs.Code.Slots.{effect_of};
 
     pub(super) fn acall(&mut self, target: Addr11, next: u16) -> Executed
         ensures { effect_of self.new result ≡ effect [] (Instr.Acall target) next self.old }
@@ -26,7 +26,7 @@ impl<'a> Processor<'a> {
     }
 
     pub(super) fn return_from(&mut self, kind: ReturnKind, next: u16) -> Executed
-        ensures { effect_of self.new result ≡ effect [] (Instr.Return kind) next self.old }
+        ensures { effect_of self.new result ≡ effect [] (Instr.Ret kind) next self.old }
     {
         let high = self.pop();
         let low = self.pop();
@@ -106,7 +106,7 @@ impl<'a> Processor<'a> {
         ensures { effect_of self.new result ≡ effect [] (Instr.DjnzDirect direct offset) next self.old }
     {
         let location = location_of(direct);
-        let byte = stepped(Step::Dec, self.held(location));
+        let byte = stepped(ByOne::Dec, self.held(location));
         let pc = if byte == 0 {
             next
         } else {
@@ -118,7 +118,7 @@ impl<'a> Processor<'a> {
     pub(super) fn djnz_register(&mut self, reg: Reg, offset: u8, next: u16) -> Executed
         ensures { effect_of self.new result ≡ effect [] (Instr.DjnzRegister reg offset) next self.old }
     {
-        let byte = stepped(Step::Dec, self.register(reg));
+        let byte = stepped(ByOne::Dec, self.register(reg));
         self.set_register(reg, byte);
         let pc = if byte == 0 {
             next

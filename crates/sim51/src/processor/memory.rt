@@ -1,7 +1,7 @@
 //! How locations, registers, internal RAM and the stack are read and written.
 
 use super::Processor;
-use crate::location::{Location, bit_value, port_number};
+use crate::location::{Location, bit_value};
 use cerco_base::Port;
 use mcs51_isa::{Ind, Reg};
 
@@ -15,7 +15,7 @@ impl<'a> Processor<'a> {
     {
         match location {
             Location::Ram(address) => self.iram[address as usize],
-            Location::Latch(port) => self.ports[port_number(port) as usize],
+            Location::Latch(port) => self.ports[port.number() as usize],
             Location::Acc => self.acc,
             Location::B => self.b,
             Location::Psw => self.psw(),
@@ -62,7 +62,7 @@ impl<'a> Processor<'a> {
         match location {
             Location::Ram(address) => self.iram[address as usize] = byte,
             Location::Latch(port) => {
-                self.ports[port_number(port) as usize] = byte;
+                self.ports[port.number() as usize] = byte;
                 return Some((port, byte));
             }
             Location::Acc => self.acc = byte,

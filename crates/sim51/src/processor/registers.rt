@@ -4,14 +4,14 @@ use super::Processor;
 use crate::executed::Executed;
 use crate::location::location_of;
 use crate::operations::{logical, stepped};
-use mcs51_isa::{Arith, Instr, Logic, Reg, Step, Transfer};
+use mcs51_isa::{ByOne, Instr, Logic, Move, Reg, SumOp};
 
 impl<'a> Processor<'a> {
     ghost use Rattle.std.specs.Prelude.{◌≡◌, []};
     ghost use Rattle.sim51.specs.Effect.{effect};
-    ghost use Rattle.sim51.specs.Places.{effect_of};
+    ghost use Rattle.sim51.specs.Code.Slots.{effect_of};
 
-    pub(super) fn step_register(&mut self, op: Step, reg: Reg, next: u16) -> Executed
+    pub(super) fn step_register(&mut self, op: ByOne, reg: Reg, next: u16) -> Executed
         ensures { effect_of self.new result ≡ effect [] (Instr.StepRegister op reg) next self.old }
     {
         let byte = stepped(op, self.register(reg));
@@ -19,7 +19,7 @@ impl<'a> Processor<'a> {
         Executed::at(next)
     }
 
-    pub(super) fn arith_register(&mut self, op: Arith, reg: Reg, next: u16) -> Executed
+    pub(super) fn arith_register(&mut self, op: SumOp, reg: Reg, next: u16) -> Executed
         ensures { effect_of self.new result ≡ effect [] (Instr.ArithRegister op reg) next self.old }
     {
         let byte = self.register(reg);
@@ -46,22 +46,18 @@ impl<'a> Processor<'a> {
     {
         let (byte, read) = self.read(location_of(direct));
         self.set_register(reg, byte);
-        Executed {
-            pc: next,
-            read,
-            write: None,
-        }
+        Executed::reading(next, read)
     }
 
     pub(super) fn load_register(&mut self, reg: Reg, next: u16) -> Executed
-        ensures { effect_of self.new result ≡ effect [] (Instr.MovRegister Transfer.Load reg) next self.old }
+        ensures { effect_of self.new result ≡ effect [] (Instr.MovRegister Move.IntoAcc reg) next self.old }
     {
         self.acc = self.register(reg);
         Executed::at(next)
     }
 
     pub(super) fn store_register(&mut self, reg: Reg, next: u16) -> Executed
-        ensures { effect_of self.new result ≡ effect [] (Instr.MovRegister Transfer.Store reg) next self.old }
+        ensures { effect_of self.new result ≡ effect [] (Instr.MovRegister Move.FromAcc reg) next self.old }
     {
         self.set_register(reg, self.acc);
         Executed::at(next)

@@ -3,22 +3,22 @@
 use super::Processor;
 use crate::code::byte_at;
 use crate::executed::Executed;
-use mcs51_isa::{Ind, Instr, TableBase, Transfer};
+use mcs51_isa::{Ind, Instr, Move, TableBase};
 
 impl<'a> Processor<'a> {
     ghost use Rattle.std.specs.Prelude.{◌≡◌, []};
     ghost use Rattle.sim51.specs.Effect.{effect};
-    ghost use Rattle.sim51.specs.Places.{effect_of};
+    ghost use Rattle.sim51.specs.Code.Slots.{effect_of};
 
     pub(super) fn load_external(&mut self, next: u16) -> Executed
-        ensures { effect_of self.new result ≡ effect [] (Instr.MovxDptr Transfer.Load) next self.old }
+        ensures { effect_of self.new result ≡ effect [] (Instr.MovxDptr Move.IntoAcc) next self.old }
     {
         self.acc = self.xram[self.dptr() as usize];
         Executed::at(next)
     }
 
     pub(super) fn store_external(&mut self, next: u16) -> Executed
-        ensures { effect_of self.new result ≡ effect [] (Instr.MovxDptr Transfer.Store) next self.old }
+        ensures { effect_of self.new result ≡ effect [] (Instr.MovxDptr Move.FromAcc) next self.old }
     {
         let address = self.dptr();
         let acc = self.acc;
@@ -27,14 +27,14 @@ impl<'a> Processor<'a> {
     }
 
     pub(super) fn load_external_indirect(&mut self, ind: Ind, next: u16) -> Executed
-        ensures { effect_of self.new result ≡ effect [] (Instr.MovxIndirect Transfer.Load ind) next self.old }
+        ensures { effect_of self.new result ≡ effect [] (Instr.MovxIndirect Move.IntoAcc ind) next self.old }
     {
         self.acc = self.xram[self.external_pointer(ind) as usize];
         Executed::at(next)
     }
 
     pub(super) fn store_external_indirect(&mut self, ind: Ind, next: u16) -> Executed
-        ensures { effect_of self.new result ≡ effect [] (Instr.MovxIndirect Transfer.Store ind) next self.old }
+        ensures { effect_of self.new result ≡ effect [] (Instr.MovxIndirect Move.FromAcc ind) next self.old }
     {
         let address = self.external_pointer(ind);
         let acc = self.acc;

@@ -1,8 +1,8 @@
 use Rattle.std.proofs.Common.{◌≡◌, ℕ, ◌+◌, List, [], ◌∷◌, ◌++◌, get_or, map, take, take_all, sym, ap, ◌∙◌, add-one}
 use Rattle.std.proofs.Math.Seq.{take-suc}
 use Rattle.std.proofs.lemmas.Result.{on_ok_weaker}
-use Rattle.mcs51_isa.specs.declared.instr.Instr.TheVariants.{Return}
-use Rattle.mcs51_isa.specs.declared.instr.ReturnKind.TheVariants.{Ret}
+use Rattle.mcs51_isa.specs.declared.instr.Instr.TheVariants.{Ret}
+use Rattle.mcs51_isa.specs.declared.instr.ReturnKind.TheVariants.{FromCall}
 use Rattle.mcs51_isa.specs.Table.{encode_of}
 use Rattle.sim51.specs.Placed.{code_of_instrs}
 use Rattle.cerco_command.specs.PortObjects.{write}
@@ -24,6 +24,6 @@ returns c =
     let items = c.as_slice-value-items.result.now in
     let all : take c.loop-value.value-index items ≡ c.args.writes.now = take_all c.loop-value.value-index items c.loop-value-test.false ∙ c.as_slice-value-items.ensures in
     on_ok_weaker c.add-2.result (λ e.
-    e ∙ (ap (λ (code : List ℕ). code ++ encode_of (Return Ret)) (c.loop-value.invariant ∙ ap (λ (vs : List ℕ). c.args.code.now ++ 0 ∷ code_of_instrs (map write vs)) all)
-    ∙ one_more c.args.code.now 0 (map write c.args.writes.now) (Return Ret)))
+    e ∙ (ap (λ (code : List ℕ). code ++ encode_of (Ret FromCall)) (c.loop-value.invariant ∙ ap (λ (vs : List ℕ). c.args.code.now ++ 0 ∷ code_of_instrs (map write vs)) all)
+    ∙ one_more c.args.code.now 0 (map write c.args.writes.now) (Ret FromCall)))
     c.add-2.ensures

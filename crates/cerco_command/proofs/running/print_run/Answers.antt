@@ -1,4 +1,4 @@
-use Rattle.cerco_command.specs.Running.{setup_of}
+use Rattle.sim51.specs.Runs.{setup_of}
 use Rattle.cerco_command.proofs.RunSteps.{started, goes_on_printing, fewer_left, stop_printed, pending_lost, pending_unput}
 use Rattle.cerco_command.proofs.running.print_run.Goals as goal
 

@@ -1,6 +1,6 @@
 use Rattle.std.proofs.Common.{◌+◌, ◌-◌}
 use Rattle.cerco_base.specs.Outside.InMemory.{sound_sink_state}
-use Rattle.cerco_command.specs.Running.{setup_of}
+use Rattle.sim51.specs.Runs.{setup_of}
 use Rattle.cerco_command.proofs.RunSteps.{PrintsOn}
 use Rattle.cerco_command.proofs.running.print_run.Given as goal
 

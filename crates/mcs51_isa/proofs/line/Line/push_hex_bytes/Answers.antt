@@ -1,5 +1,5 @@
 use Rattle.std.proofs.Common.{◌∙◌, ◌++◌, ap, get_or, arith, List, ℕ}
-use Rattle.mcs51_isa.specs.Listing.{hex_byte}
+use Rattle.cerco_base.specs.HexDigits.{hex_byte}
 use Rattle.mcs51_isa.proofs.HexText.{length-with_hex_bytes, hex_bytes_more}
 use Rattle.mcs51_isa.proofs.line.Line.push_hex_bytes.Goals as goal
 

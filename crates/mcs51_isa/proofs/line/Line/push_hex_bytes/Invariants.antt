@@ -1,6 +1,6 @@
 use Rattle.std.proofs.Common.{◌≡◌, ◌++◌, take}
 use Rattle.std.specs.List.{flat_map}
-use Rattle.mcs51_isa.specs.Listing.{hex_byte}
+use Rattle.cerco_base.specs.HexDigits.{hex_byte}
 use Rattle.mcs51_isa.proofs.line.Line.push_hex_bytes.Given as goal
 
 abbrev pub invariant-loop-byte : goal.invariant-loop-byte

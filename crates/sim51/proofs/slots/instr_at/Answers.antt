@@ -1,7 +1,7 @@
 use Rattle.std.proofs.Common.{◌+◌}
 use Rattle.sim51.specs.Step.{instr_at}
 use Rattle.sim51.proofs.Steps.{code_at_mod}
-use Rattle.sim51.proofs.places.instr_at.Goals as goal
+use Rattle.sim51.proofs.slots.instr_at.Goals as goal
 
 pub returns : goal.returns
 unfolding instr_at

@@ -4,7 +4,7 @@ use Rattle.std.proofs.lemmas.Option.{slice_get-get_or}
 use Rattle.cerco_base.specs.declared.events.Label.{Label}
 use Rattle.sim51.specs.Step.{label_at}
 use Rattle.sim51.proofs.Tables.{IsTable, table_grows, at_most_all}
-use Rattle.sim51.proofs.places.label_table.Goals as goal
+use Rattle.sim51.proofs.slots.label_table.Goals as goal
 
 no_labels : (table : List (Option Label)) → table ≡ replicate 65536 None → IsTable [] table
 no_labels table clean = record {

@@ -3,7 +3,7 @@ ghost use Rattle.std.specs.Prelude.{◌≡◌, ◌<◌, ℕ, Some, IfOk, length,
 ghost use Rattle.std.specs.List.{IsDistinct};
 ghost use Rattle.mcs51_isa.specs.Decoding.{with_length};
 ghost use Rattle.sim51.specs.Step.{instr_at, next_address, halts, label_at};
-ghost use Rattle.sim51.specs.Places.{place_by, place_of, ArePlaces};
+ghost use Rattle.sim51.specs.Code.Slots.{slot_by, slot_of, AreSlots};
 
 use crate::code::byte_at;
 use cerco_base::{Label, NoMemory};
@@ -23,7 +23,7 @@ pub(crate) struct Planned {
 
 /// What a step does at an address.
 #[derive(Clone, Copy)]
-pub(crate) enum Place {
+pub(crate) enum Slot {
     /// A jump to itself stands here.
     Halt,
     /// The reserved opcode stands here.
@@ -54,17 +54,17 @@ fn halts(instr: Instr, next: u16, at: u16) -> bool
     }
 }
 
-fn place_at(code: &[u8], label: Option<Label>, at: u16) -> Place
-    ensures { result ≡ place_by (instr_at code.now at) label at }
+fn slot_at(code: &[u8], label: Option<Label>, at: u16) -> Slot
+    ensures { result ≡ slot_by (instr_at code.now at) label at }
 {
     let Some((instr, length)) = instr_at(code, at) else {
-        return Place::Reserved;
+        return Slot::Reserved;
     };
     let next = at.wrapping_add(length as u16);
     if halts(instr, next, at) {
-        return Place::Halt;
+        return Slot::Halt;
     }
-    Place::Runs(Planned {
+    Slot::Runs(Planned {
         instr,
         next,
         cycles: cycles(instr),
@@ -86,14 +86,14 @@ fn label_table(alloc: Global, labels: &[u16]) -> Result<Vec<Option<Label>>, NoMe
 }
 
 /// What a step does at each address.
-pub(crate) fn places(alloc: Global, code: &[u8], labels: &[u16]) -> Result<Vec<Place>, NoMemory>
+pub(crate) fn slots(alloc: Global, code: &[u8], labels: &[u16]) -> Result<Vec<Slot>, NoMemory>
     requires { IsDistinct nat_eq labels.now }
-    ensures { IfOk result (λ places. ArePlaces code.now labels.now places.items) }
+    ensures { IfOk result (λ slots. AreSlots code.now labels.now slots.items) }
 {
     let table = label_table(alloc, labels)?;
-    let mut places = Vec::with_capacity(alloc, table.len())?;
+    let mut slots = Vec::with_capacity(alloc, table.len())?;
     for (at, label) in table.iter().enumerate() {
-        places.push(place_at(code, *label, at as u16))?;
+        slots.push(slot_at(code, *label, at as u16))?;
     }
-    Ok(places)
+    Ok(slots)
 }
