@@ -149,6 +149,3 @@ pub fn annotate<O: Sink>(
 {
     put_annotated(source, points.as_slice(), start, costs, out)
 }
-
-#[cfg(test)]
-mod tests;

@@ -6,8 +6,6 @@ pub mod faults;
 pub mod graph;
 mod nodes;
 pub mod sums;
-#[cfg(test)]
-mod tests;
 mod walk;
 
 pub use faults::OrderFault;

@@ -12,6 +12,3 @@ pub mod token_list;
 pub use scanner::{one_answer, tokens};
 pub use symbols::{TerminalList, names_have_numbers, terminals};
 pub use token_list::{Token, TokenList};
-
-#[cfg(test)]
-mod tests;

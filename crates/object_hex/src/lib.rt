@@ -10,6 +10,3 @@ mod reading;
 pub use hex_text::write_hex;
 pub use map_text::write_map;
 pub use reading::{HexError, HexFault, HexKind, MapError, MapFault, read_hex, read_map};
-
-#[cfg(test)]
-mod tests;

@@ -1,0 +1,15 @@
+//! Tests of the whole program: what `cerco` prints and writes for its words and files, and its exit status.
+#![tactic(auto)]
+
+#[cfg(test)]
+mod faults;
+#[cfg(test)]
+mod objects;
+#[cfg(test)]
+mod port_writes;
+#[cfg(test)]
+mod seeing;
+#[cfg(test)]
+mod sources;
+#[cfg(test)]
+mod words;

@@ -1,0 +1,9 @@
+//! Tests of the texts at both ends of the compiler: the tokens of a source, the annotated source, and the texts of an object.
+#![tactic(auto)]
+
+#[cfg(test)]
+mod annotated;
+#[cfg(test)]
+mod objects;
+#[cfg(test)]
+mod tokens_of_texts;
