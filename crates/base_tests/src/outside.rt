@@ -1,4 +1,5 @@
 //! Files and outputs: those of the host, those that are kept in memory, and those that never fail.
+ghost use Rattle.std.specs.Prelude.{◌<◌};
 
 use cerco_base::{
     FileSink, Files, HostFiles, HostOut, IoFault, MemoryFiles, MemorySink, ReadFault, Sink,
@@ -22,7 +23,9 @@ fn expect_front<F: Files>(
     name: &str,
     limit: usize,
     front: &str,
-) -> Result<(), ReadFault> {
+) -> Result<(), ReadFault>
+    requires { 0 < limit }
+{
     let text = read_whole(alloc, files, name, limit)?;
     assert_eq!(rt; text.as_slice(), front.as_bytes(), "{name} up to {limit}");
     Ok(())
