@@ -9,6 +9,7 @@ mod location;
 pub mod machine;
 mod operations;
 mod processor;
+mod quiet;
 mod slots;
 
 pub use events::{Events, Step};

@@ -1,13 +1,16 @@
 //! The machine with its code.
-ghost use Rattle.std.specs.Prelude.{◌≡◌, ◌<◌, ◌≤◌, ◌^◌, length, slice_index, IfOk, nat_eq};
+ghost use Rattle.std.specs.Prelude.{◌≡◌, ◌<◌, ◌≤◌, ◌^◌, false, length, slice_index, IfOk, nat_eq};
 ghost use Rattle.std.specs.List.{IsDistinct};
 ghost use Rattle.cerco_traces.specs.Headline.{ArrivesOnce};
 ghost use Rattle.sim51.specs.State.{reset};
 ghost use Rattle.sim51.specs.Step.{step, moved, KeepsState};
+ghost use Rattle.sim51.specs.Skips.{is_silent, Skips};
+ghost use Rattle.sim51.specs.Code.Quiets.{MakesSilent};
 ghost use Rattle.sim51.specs.Runs.{object, cycles_of_run};
 
 use crate::events::{Events, Step};
 use crate::processor::Processor;
+use crate::quiet::{Quiet, quiets};
 use crate::slots::{Slot, slots};
 use cerco_base::NoMemory;
 use std::alloc::Global;
@@ -20,6 +23,7 @@ pub struct Machine<'a> {
     code: Vec<u8>,
     labels: Vec<u16>,
     slots: Vec<Slot>,
+    quiets: Vec<Option<Quiet>>,
     processor: Processor<'a>,
     pc: u16,
     cycles: u64,
@@ -27,7 +31,7 @@ pub struct Machine<'a> {
 
 impl<'a> Model for Machine<'a> {
     ghost use Rattle.sim51.specs.State.{LoadedMachine};
-    ghost use Rattle.sim51.specs.Code.Slots.{AreSlots};
+    ghost use Rattle.sim51.specs.Code.Quiets.{AreTables};
 
     ghost Value = { LoadedMachine };
 
@@ -37,7 +41,7 @@ impl<'a> Model for Machine<'a> {
       state = record { core = m.processor; pc = m.pc; cycles = m.cycles };
     } };
 
-    ghost invariant = { λ m. AreSlots m.code.items m.labels.items m.slots.items };
+    ghost invariant = { λ m. AreTables m.code.items m.labels.items m.slots.items m.quiets.items };
 }
 
 impl<'a> Machine<'a> {
@@ -55,11 +59,13 @@ impl<'a> Machine<'a> {
         ensures arrives_once { ArrivesOnce (object code.now labels.now) cycles_of_run }
     {
         let slots = slots(alloc, code, labels)?;
+        let quiets = quiets(alloc, &slots)?;
         let processor = Processor::reset(alloc, script)?;
         Ok(Machine {
             code: code.to_vec(alloc)?,
             labels: labels.to_vec(alloc)?,
             slots,
+            quiets,
             processor,
             pc: 0,
             cycles: 0,
@@ -89,6 +95,68 @@ impl<'a> Machine<'a> {
                     write: executed.write,
                 })
             }
+        }
+    }
+
+    // Makes steps while their instructions show nothing wherever they are made, and the cycles are below a limit.
+    #[inline(always)]
+    fn run_quiet(&mut self, limit: u64)
+        requires { limit ≤ 2 ^ 62 }
+        ensures code { self.new.code ≡ self.old.code }
+        ensures labels { self.new.labels ≡ self.old.labels }
+        ensures skips { Skips self.old.code self.old.labels limit self.old.state self.new.state }
+    {
+        let mut pc = self.pc;
+        let mut cycles = self.cycles;
+        while cycles < limit {
+            let Some(quiet) = self.quiets[pc as usize] else {
+                break;
+            };
+            let executed = self.processor.execute(&self.code, quiet.instr, quiet.next);
+            pc = executed.pc;
+            cycles += quiet.cycles as u64;
+        }
+        self.pc = pc;
+        self.cycles = cycles;
+    }
+
+    // Whether a step would show nothing.
+    fn is_silent(&self) -> bool
+        ensures { result ≡ is_silent (step self.now.code self.now.labels self.now.state) }
+    {
+        match self.slots[self.pc as usize] {
+            Slot::Halt => false,
+            Slot::Reserved => false,
+            Slot::Runs(planned) => self.processor.is_silent(planned),
+        }
+    }
+
+    // Makes a step, if it shows nothing and the cycles are below a limit. The result says whether it was made.
+    #[cold]
+    fn step_silent(&mut self, limit: u64) -> bool
+        requires { limit ≤ 2 ^ 62 }
+        ensures code { self.new.code ≡ self.old.code }
+        ensures labels { self.new.labels ≡ self.old.labels }
+        ensures made { MakesSilent self.old.code self.old.labels limit self.old.state self.new.state result }
+    {
+        if self.cycles >= limit || !self.is_silent() {
+            return false;
+        }
+        let _step = self.step();
+        true
+    }
+
+    /// Makes steps as long as they show nothing and begin with fewer cycles than the limit.
+    pub fn skip(&mut self, limit: u64)
+        requires { limit ≤ 2 ^ 62 }
+        ensures code { self.new.code ≡ self.old.code }
+        ensures labels { self.new.labels ≡ self.old.labels }
+        ensures skips { Skips self.old.code self.old.labels limit self.old.state self.new.state }
+        ensures stops { self.new.state.cycles < limit → is_silent (step self.old.code self.old.labels self.new.state) ≡ false }
+    {
+        self.run_quiet(limit);
+        while self.step_silent(limit) {
+            self.run_quiet(limit);
         }
     }
 

@@ -4,12 +4,15 @@ use super::Processor;
 use crate::executed::Executed;
 use crate::location::{bit_location, bit_of, with_bit};
 use crate::operations::{carry_logical, changed};
+use crate::quiet::names_port;
+use crate::slots::Planned;
 use mcs51_isa::{BitChange, BitTest, CarryOp, Instr};
 
 impl<'a> Processor<'a> {
     ghost use Rattle.std.specs.Prelude.{◌≡◌, []};
     ghost use Rattle.sim51.specs.Effect.{effect, branches_on_bit};
     ghost use Rattle.sim51.specs.Code.Slots.{effect_of};
+    ghost use Rattle.sim51.specs.Code.Quiets.{leaves_bit, is_silent_planned};
 
     pub(super) fn carry_logic(&mut self, op: CarryOp, bit: u8, next: u16) -> Executed
         ensures { effect_of self.new result ≡ effect [] (Instr.CarryLogic op bit) next self.old }
@@ -82,5 +85,24 @@ impl<'a> Processor<'a> {
             BitTest::Jb => self.branch_on_bit(bit, target, next),
             BitTest::Jnb => self.branch_on_bit(bit, next, target),
         }
+    }
+
+    // Whether an instruction is a JBC whose bit is 0. It writes nothing then.
+    fn leaves_bit(&self, instr: Instr) -> bool
+        ensures { result ≡ leaves_bit instr self.now }
+    {
+        match instr {
+            Instr::BranchBit(BitTest::Jbc, bit, _) => {
+                !bit_of(self.held(bit_location(bit)), bit % 8)
+            }
+            _ => false,
+        }
+    }
+
+    /// Whether an instruction would show nothing.
+    pub(crate) fn is_silent(&self, planned: Planned) -> bool
+        ensures { result ≡ is_silent_planned planned self.now }
+    {
+        planned.label.is_none() && (!names_port(planned.instr) || self.leaves_bit(planned.instr))
     }
 }

@@ -10,6 +10,7 @@ impl<'a> Processor<'a> {
     ghost use Rattle.sim51.specs.Code.Slots.{effect_of};
 
     /// Makes the effect of an instruction of this code, where `next` is the address behind it.
+    #[inline(always)]
     pub(crate) fn execute(&mut self, code: &[u8], instr: Instr, next: u16) -> Executed
         ensures { effect_of self.new result ≡ effect code.now instr next self.old }
     {
