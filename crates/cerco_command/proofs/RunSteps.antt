@@ -1,5 +1,5 @@
 -- How a run goes on, where it stops, and that it stops.
-use Rattle.std.proofs.Common.{◌≡◌, ℕ, zero, suc, ◌+◌, ◌-◌, ◌<◌, ◌≤◌, List, [], ◌∷◌, ◌++◌, length, map, Some, None, Err, refl, sym, ap, subst, ◌∙◌, arith, inl, inr, ◌⊎◌, append_assoc, below_more, length-append}
+use Rattle.std.proofs.Common.{◌≡◌, ℕ, zero, suc, ◌+◌, ◌-◌, ◌<◌, ◌≤◌, List, [], ◌∷◌, ◌++◌, length, map, Some, None, Err, refl, sym, ap, subst, ◌∙◌, arith, inl, inr, ◌⊎◌, append_assoc, below_more, length-append, Option, Bool, true, false, cond, lit≤, append-nil}
 use Rattle.std.specs.List.{flat_map}
 use Rattle.std.proofs.lemmas.Bool.{cases_lt}
 use Rattle.std.proofs.lemmas.List.Concat.{flat_map-append}
@@ -16,6 +16,7 @@ use Rattle.sim51.specs.Step.{Moved, Halts, Reserved, Goes, step}
 use Rattle.sim51.specs.Runs.{Running, object, events_of, advanced, Setup, setup_of, TimedEvent, made_by, state_after, step_after, trace}
 use Rattle.sim51.specs.State.{LoadedMachine}
 use Rattle.sim51.proofs.Leads.{step_cycles}
+use Rattle.sim51.specs.Skips.{no_events, LeadsBy, Skips}
 use Rattle.cerco_command.specs.Answers.{Says, Answers}
 use Rattle.cerco_command.specs.Messages.{event_line, event_lines, end_line, stop_line, reserved_line}
 use Rattle.cerco_command.specs.Running.{GoesOn, Stops, RunsTo}
@@ -140,6 +141,34 @@ module _ (m : Setup) (limit : ℕ) where
     pub code_is : now.code ≡ m.code
     pub labels_are : now.labels ≡ m.labels
     pub cycles : now.state.cycles ≤ limit + 4
+
+  -- steps that make no events print nothing
+  silent_on : (n : ℕ) (s t : State) (text : List ℕ) → Underway s text → s.cycles ≤ limit + 4 → LeadsBy m.code m.labels limit n s t → Underway t text × (t.cycles ≤ limit + 4)
+  unfolding LeadsBy
+  silent_on zero s t text u low leads = subst (λ (q : State). Underway q text × (q.cycles ≤ limit + 4)) leads (u, low)
+  silent_on (suc n) s t text u low leads =
+      let q = leads.0 in
+      let before = silent_on n s q text u low leads.1 in
+      let below = leads.2 in
+      let took = step_cycles m.code m.labels q no_events t leads.3 in
+      let longer = one_more q t text [] no_events before.0 leads.3 below refl in
+      (subst (λ (l : List ℕ). Underway t l) (append-nil text) longer, omega arith)
+
+  -- the machine made such steps
+  pub went_silently : (o p : SinkState) (now next : LoadedMachine) (pending : List ℕ) → PrintsOn o p now pending → next.code ≡ now.code → next.labels ≡ now.labels → Skips now.code now.labels limit now.state next.state → PrintsOn o p next pending
+  went_silently o p now next pending a code_same labels_same skips =
+      let leads : LeadsBy m.code m.labels limit skips.steps now.state next.state =
+      subst (λ (l : List ℕ). LeadsBy m.code l limit skips.steps now.state next.state) a.labels_are
+      (subst (λ (l : List ℕ). LeadsBy l now.labels limit skips.steps now.state next.state) a.code_is skips.leads) in
+      let on = silent_on skips.steps now.state next.state a.text a.underway a.cycles leads in
+      record {
+        text = a.text;
+        so_far = a.so_far;
+        underway = on.0;
+        code_is = code_same ∙ a.code_is;
+        labels_are = labels_same ∙ a.labels_are;
+        cycles = on.1;
+      }
 
   step_is : (o p : SinkState) (now : LoadedMachine) (pending : List ℕ) → PrintsOn o p now pending → step now.code now.labels now.state ≡ step_from now.state
   step_is o p now pending a = ap (λ (c : List ℕ). step c now.labels now.state) a.code_is ∙ ap (λ (l : List ℕ). step m.code l now.state) a.labels_are

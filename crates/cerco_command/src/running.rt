@@ -106,6 +106,7 @@ fn print_run<O: Sink>(alloc: Global, machine: &mut Machine<'_>, limit: u32, out:
 {
     let mut pending = SoundSink::new(alloc);
     loop {
+        machine.skip(limit as u64);
         match print_step(machine, limit as u64, &mut pending) {
             Ok(None) => {}
             Ok(Some(status)) => return say(out, status, pending.bytes()),

@@ -133,6 +133,10 @@ module _ (code labels : List ℕ) (limit : ℕ) where
       let once = step_rises code labels leads.0 no_events t leads.3 in
       omega arith
 
+-- the cycles never fall
+pub skips_rise : (code labels : List ℕ) (limit : ℕ) (s t : State) → Skips code labels limit s t → s.cycles ≤ t.cycles
+skips_rise code labels limit s t a = rises code labels limit a.steps s t a.leads
+
 -- A machine that makes steps of instructions that show nothing, in a state s.
 pub record RunsOn (m : LoadedMachine) (limit : ℕ) (code labels : List ℕ) (slots : List Slot) (quiets : List (Option Quiet)) (s : State) : Type 0 where
   pub tables : AreTables code labels slots quiets
@@ -200,7 +204,7 @@ module _ (m : LoadedMachine) (limit : ℕ) (now next last : LoadedMachine) where
   less_left makes further =
       let below = makes.0 in
       let once = step_rises now.code now.labels now.state no_events next.state makes.1 in
-      let rest = rises next.code next.labels limit further.steps next.state last.state further.leads in
+      let rest = skips_rise next.code next.labels limit next.state last.state further in
       omega arith
 
   pub skipped : SkipsIn m limit now → MakesSilent now.code now.labels limit now.state next.state false → Skips m.code m.labels limit m.state next.state

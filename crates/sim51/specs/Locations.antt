@@ -5,7 +5,6 @@ use Rattle.cerco_base.specs.declared.events.Port.{Port}
 use Rattle.cerco_base.specs.declared.events.Port.TheVariants.{P0, P1, P2, P3}
 use Rattle.cerco_base.specs.Bytes.{bit_value}
 use Rattle.cerco_base.specs.Events.{next_reading}
-pub use Rattle.cerco_base.specs.Events.{next_reading as pins}
 use Rattle.cerco_base.specs.Ports.{port_number}
 use Rattle.mcs51_isa.specs.declared.operands.Reg.{Reg}
 use Rattle.mcs51_isa.specs.declared.operands.Ind.{Ind}

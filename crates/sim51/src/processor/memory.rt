@@ -7,7 +7,8 @@ use mcs51_isa::{Ind, Reg};
 
 impl<'a> Processor<'a> {
     ghost use Rattle.std.specs.Prelude.{◌≡◌, ◌<◌, ◌+◌, ◌*◌, drop};
-    ghost use Rattle.sim51.specs.Locations.{held, pins, read_value, after_read, read_event, written, write_event, register_address, register, with_register, pointer, indirect, with_indirect, external_pointer, dptr, with_dptr, raised, with_top, pushed, top, popped, called_from};
+    ghost use Rattle.cerco_base.specs.Events.{next_reading};
+    ghost use Rattle.sim51.specs.Locations.{held, read_value, after_read, read_event, written, write_event, register_address, register, with_register, pointer, indirect, with_indirect, external_pointer, dptr, with_dptr, raised, with_top, pushed, top, popped, called_from};
 
     /// The byte at a location. A port gives its latch.
     pub(super) fn held(&self, location: Location) -> u8
@@ -27,7 +28,7 @@ impl<'a> Processor<'a> {
     }
 
     fn take_pins(&mut self) -> u8
-        ensures value { result ≡ pins self.old.script }
+        ensures value { result ≡ next_reading self.old.script }
         ensures taken { self.new ≡ record self.old { script = drop 1 self.old.script } }
     {
         match self.script {
