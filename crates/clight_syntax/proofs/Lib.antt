@@ -3,3 +3,4 @@ pub mod PointsInOrder
 pub mod LabelsDetermined
 pub mod LabelledExamples
 pub mod PointsBegin
+pub mod OwnVariables
