@@ -2,6 +2,11 @@
 //! integer types.
 #![tactic(auto)]
 
+pub mod integers;
+pub mod sizes;
+pub mod structs;
 pub mod types;
 
+pub use integers::{IntegerType, Size};
+pub use structs::{MemberType, StructType};
 pub use types::Ty;

@@ -5,7 +5,7 @@ use cerco_base::{NoMemory, Reason, TypeKind};
 
 // Texts of which the part without a type begins at the first byte of the second part.
 #[rattlefmt::skip]
-const TYPES: [(&str, &str, TypeKind); 138] = [
+const TYPES: [(&str, &str, TypeKind); 150] = [
     // a `long` type, or a number that would be `long`
     ("void main(void){P1=", "40000;}", TypeKind::Long),
     ("void main(void){P1=-", "32768;}", TypeKind::Long),
@@ -161,6 +161,19 @@ const TYPES: [(&str, &str, TypeKind); 138] = [
     ("int f(void);void ", "f(void){}void main(void){}", TypeKind::Prototype),
     ("void f(int a);void ", "f(int a,int b){}void main(void){}", TypeKind::Prototype),
     ("void f(int a);void ", "f(char a){}long g;void main(void){}", TypeKind::Prototype),
+    // a function's name in parentheses is judged as the bare name is
+    ("void f(void){}void main(void){P1=", "&(f);}", TypeKind::Operand),
+    ("void f(void){}void main(void){(f)", "=1;}", TypeKind::Assign),
+    ("void f(void){}void main(void){(f)", "=P1;}", TypeKind::Port),
+    ("void f(void){}void main(void){P1=(f)", ".m;}", TypeKind::Member),
+    ("void f(void){}void main(void){P1=((f))", "->m;}", TypeKind::Member),
+    ("void f(void){}void main(void){if((", "f))P1=1;}", TypeKind::Condition),
+    ("void f(void){}void main(void){if(!(", "f))P1=1;}", TypeKind::Condition),
+    ("void f(void){}void main(void){if(1&&(", "f))P1=1;}", TypeKind::Condition),
+    ("void f(void){}void main(void){if(((", "f))||1)P1=1;}", TypeKind::Condition),
+    ("void f(void){}void main(void){P1=((", "f));}", TypeKind::Value),
+    ("void f(void){}void main(void){P1=1+(", "f);}", TypeKind::Value),
+    ("void f(void){}void main(void){P1=-(", "f);}", TypeKind::Value),
 ];
 
 #[test]

@@ -11,7 +11,8 @@ use Rattle.clight_source.specs.declared.tree.PrefixOperator.TheVariants as p
 use Rattle.clight_source.specs.declared.tree.MemberOperator.TheVariants.{Dot, Arrow}
 use Rattle.clight_source.specs.declared.tree.Specifiers.TheVariants as w
 use Rattle.clight_source.specs.Trees.{Initialiser, NoInitialiser, Single, NoParameters, Header, Declaration}
-use Rattle.c_types.specs.Types.{CType, Integer, Pointer, Array, Struct, Void, One, Two, StructType}
+use Rattle.c_types.specs.Types.{CType, Integer, Pointer, Array, Struct, Void, StructType}
+use Rattle.c_types.specs.declared.integers.Size.TheVariants.{One, Two}
 use Rattle.clight_syntax.specs.declared.typed.Home.{Home}
 use Rattle.clight_syntax.specs.declared.typed.Home.TheVariants as h
 use Rattle.clight_syntax.specs.TypedTrees.{Expr, Variable, Number, Parenthesis, Binary, Prefix, Cast, Index, Select, Cond, Truth, Both, Test, NoArguments, Arguments', Call, Assign, ReadPort, WritePort, CallOf, If, While, Return, Stmt, Stmts, NoStmts, Then, Block, NoValue, Local, Function, Item, GlobalItem, FunctionItem, Variable', TypedProgram}

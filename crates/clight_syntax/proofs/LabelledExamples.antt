@@ -10,7 +10,8 @@ use Rattle.clight_source.specs.declared.symbol.Radix.TheVariants.{Decimal}
 use Rattle.clight_source.specs.declared.tree.Name.{Name}
 use Rattle.clight_source.specs.declared.tree.Specifiers.TheVariants as w
 use Rattle.clight_source.specs.Trees.{NoParameters}
-use Rattle.c_types.specs.Types.{CType, Integer, Void, One}
+use Rattle.c_types.specs.Types.{CType, Integer, Void}
+use Rattle.c_types.specs.declared.integers.Size.TheVariants.{One}
 use Rattle.clight_syntax.specs.TypedTrees.{Variable, Number, Cond, Truth, InParentheses, Not, Both, Either, Assignment, Test, NoArguments, Call, ForHead, Empty, Block, Assign, ReadPort, WritePort, CallOf, If, IfElse, While, Do, For, Break, Continue, Return, Stmts, NoStmts, Then, TypedProgram}
 use Rattle.clight_syntax.specs.Annotations.{Costs, annotated}
 use Rattle.clight_syntax.specs.Labelling.{points_of, without_labels, IsLabelled}

@@ -4,3 +4,4 @@ pub mod LabelsDetermined
 pub mod LabelledExamples
 pub mod BoundExamples
 pub mod PointsBegin
+pub mod OwnVariables

@@ -10,7 +10,8 @@ use Rattle.clight_source.specs.declared.tree.MemberOperator.TheVariants.{Dot, Ar
 use Rattle.clight_source.specs.Trees.{Initialiser, NoInitialiser, Single, Listed, Global}
 use Rattle.clight_syntax.specs.declared.typed.ResultTarget.{ResultTarget}
 use Rattle.clight_syntax.specs.declared.typed.Home.TheVariants as h
-use Rattle.c_types.specs.Types.{CType, Void, Integer, Pointer, StructType, size_of}
+use Rattle.c_types.specs.Types.{CType, Void, Pointer, StructType, size_of}
+use Rattle.c_types.specs.Kinds.{is_scalar}
 use Rattle.clight_syntax.specs.TypedTrees.{Expr, Variable, Number, Parenthesis, Binary, Prefix, Cast, Index, Select, type_at, Cond, Truth, InParentheses, Not, Both, Either, Assignment, EarlierArgument, Arguments, NoArguments, Arguments', Call, ForHead, Stmt, Empty, Block, Assign, ReadPort, WritePort, CallOf, If, IfElse, While, Do, For, Break, Continue, Return, Stmts, NoStmts, Then, LocalInitialiser, NoValue, Value, Local, Function, Item, GlobalItem, Variable', TypedProgram, own_variables}
 
 -- ---- depths of expressions, as of the source's
@@ -81,11 +82,6 @@ abbrev pub function_depth : {L : Type 0} → Function L → ℕ
 function_depth f = max (deepest (λ x. initialiser_depth x.initialiser) f.locals) (stmts_depth f.body)
 
 -- ---- the register need of a function
-
-abbrev pub is_scalar : CType → Bool
-is_scalar (Integer size signed) = true
-is_scalar (Pointer target) = true
-is_scalar type = false
 
 -- the bytes of a scalar, none of an array or a struct
 abbrev pub scalar_bytes : List StructType → Variable' → ℕ

@@ -1,4 +1,3 @@
-pub mod LiteralTypes
 pub mod Annotations
 pub mod Labelling
 pub mod TypedSpans

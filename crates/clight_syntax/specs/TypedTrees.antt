@@ -1,6 +1,6 @@
 -- A program whose expressions have types and whose names have meanings, as definitions speak of it: without the pointers of the
 -- program's own tree. L is what stands at each place of a cost label: nothing, or the label.
-use Rattle.std.specs.Prelude.{ℕ, ◌+◌, List, Option, Some, None, slice_get, length, take, drop}
+use Rattle.std.specs.Prelude.{ℕ, ◌+◌, List, length, take, drop, Option, Some, None, slice_get}
 use Rattle.cerco_base.specs.CallOrder.{Called}
 use Rattle.clight_source.specs.declared.span.Span.{Span}
 use Rattle.clight_source.specs.declared.symbol.Literal.{Literal}
@@ -143,6 +143,14 @@ pub record Variable' : Type 0 where
   pub home : Home
   pub address : ℕ
 
+-- how many parameters and locals a function has
+abbrev pub own_count : {L : Type 0} → Function L → ℕ
+own_count f = f.parameters + length f.locals
+
+-- a function's parameters and locals, where these are the variables of its program
+abbrev pub own_variables : {L : Type 0} → Function L → List Variable' → List Variable'
+own_variables f variables = take (own_count f) (drop f.first_variable variables)
+
 pub record TypedProgram (L : Type 0) : Type 0 where
   pub names : List (List ℕ)
   pub items : List Item
@@ -163,10 +171,3 @@ variable_address None = 0
 -- the first address of a variable's block, 0 where it has none
 abbrev pub address_at : {L : Type 0} → TypedProgram L → ℕ → ℕ
 address_at p v = variable_address (slice_get p.variables v)
-
--- a function's parameters and locals
-abbrev pub own_count : {L : Type 0} → Function L → ℕ
-own_count f = f.parameters + length f.locals
-
-abbrev pub own_variables : {L : Type 0} → Function L → List Variable' → List Variable'
-own_variables f variables = take (own_count f) (drop f.first_variable variables)

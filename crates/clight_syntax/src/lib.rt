@@ -4,8 +4,9 @@
 
 pub mod points;
 pub mod typed;
+pub mod variables;
 
-pub use c_types::Ty;
+pub use c_types::{MemberType, StructType, Ty};
 pub use clight_source::{
     Expr, Function, Literal, Names, Program, Radix, Span, Stmt, Symbol, Terminal, depth,
 };

@@ -4,7 +4,7 @@
 ghost use Rattle.std.specs.Prelude.{◌≡◌, slice_index_or};
 
 use crate::points::Points;
-use c_types::Ty;
+use c_types::{StructType, Ty};
 use cerco_base::{CallOrder, Label};
 use clight_source::names::Names;
 use clight_source::span::Span;
@@ -223,26 +223,6 @@ pub struct Variable {
     pub home: Home,
     /// The first address of its block in external RAM, 0 where it has none.
     pub address: u16,
-}
-
-/// A member of a struct.
-#[derive(Drop)]
-pub struct MemberType {
-    /// The number of its name.
-    pub name: u32,
-    pub ty: Ty,
-    /// Where it begins in the struct, in bytes.
-    pub offset: u32,
-}
-
-/// A struct.
-#[derive(Drop)]
-pub struct StructType {
-    /// The number of its tag's name.
-    pub tag: u32,
-    pub members: Vec<MemberType>,
-    /// How many bytes it has.
-    pub size: u32,
 }
 
 /// A program whose expressions have types and whose names have meanings.

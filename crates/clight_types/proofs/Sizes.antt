@@ -2,10 +2,11 @@
 use Rattle.std.proofs.Common.{◌≡◌, ◌∙◌, ℕ, ◌≤◌, ◌<◌, Bool, true, false, ◌&&◌, ◌||◌, List, [], ◌∷◌, refl, sym, ap, arith, inl, inr, ◌⊎◌}
 use Rattle.std.specs.Prelude.{min, nat_eq, nat_le, Option, Some, None, if◌then◌else◌}
 use Rattle.std.proofs.lemmas.Bool.{cases_lt, ne_eqb, lt-leb}
-use Rattle.c_types.specs.Types.{CType, StructType, size_of}
+use Rattle.c_types.specs.Types.{CType, StructType, size_of, type_eq}
 use Rattle.c_types.specs.Conversions.{unsigned_char}
 use Rattle.clight_types.specs.Expressions.{are_pointer_and_steps}
-use Rattle.clight_types.specs.Operands.{Operand, is_integer, is_pointer, is_number, type_eq, target_of, is_power, steps_over}
+use Rattle.c_types.specs.Kinds.{is_integer, is_pointer, target_of}
+use Rattle.clight_types.specs.Operands.{Operand, is_number, is_power, steps_over}
 use Rattle.clight_types.specs.Held.{size_cap}
 
 no_power : (n : ℕ) → 65536 ≤ n → is_power n ≡ false

@@ -6,7 +6,8 @@ use Rattle.clight_source.specs.declared.tree.Specifiers.TheVariants as t
 use Rattle.clight_source.specs.declared.tree.Length.{Length}
 use Rattle.clight_source.specs.Trees.{Declared, Declaration, EarlierParameter, Parameters, NoParameters, Parameters', Header}
 use Rattle.clight_source.specs.Trees as tree
-use Rattle.c_types.specs.Types.{CType, Void, Integer, Pointer, Array, Struct, One, Two, Four, Member, StructType, size_of}
+use Rattle.c_types.specs.declared.integers.Size.TheVariants.{One, Two, Four}
+use Rattle.c_types.specs.Types.{CType, Void, Integer, Pointer, Array, Struct, Member, StructType, size_of, type_eq}
 use Rattle.c_types.specs.Conversions.{unsigned_char, int, unsigned_int, long, unsigned_long}
 use Rattle.clight_types.specs.Scopes.{Signature}
 
@@ -87,6 +88,12 @@ signature_of structs x = record {
   result = declared_type structs x.declared;
   parameters = map (declared_type structs) (parameters_of x.parameters);
 }
+
+-- the same types, one after the other
+abbrev pub types_eq : List CType → List CType → Bool
+types_eq [] [] = true
+types_eq (x ∷ xs) (y ∷ ys) = type_eq x y && types_eq xs ys
+types_eq xs ys = false
 
 -- ---- sizes
 

@@ -9,3 +9,7 @@ tags_of structs = map (λ s. s.tag) structs
 -- the names of members, in order
 abbrev pub names_of : List Member → List ℕ
 names_of members = map (λ member. member.name) members
+
+-- those of each struct
+abbrev pub all_names_of : List StructType → List (List ℕ)
+all_names_of structs = map (λ s. names_of s.members) structs

@@ -1,14 +1,13 @@
 pub mod Places
 pub mod Operands
+pub mod Assignable
 pub mod Scopes
 pub mod Declarations
 pub mod FoundStructs
 pub mod Expressions
-pub mod Statements
-pub mod Functions
 pub mod TypedExpressions
 pub mod Held
-pub mod HeldFound
+pub mod HeldNames
 pub mod HeldStructs
 pub mod Outcomes
 pub mod HeldJudged

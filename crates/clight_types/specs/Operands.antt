@@ -1,64 +1,12 @@
 -- What an expression is to the operator beside it: the type of its value, and its number where it is a constant (ISO/IEC
--- 9899:1999, 6.3.2.1 and 6.5). Predicates over types that the rules of expressions, statements and declarations share.
-use Rattle.std.specs.Prelude.{◌≡◌, ◌≢◌, ℕ, zero, suc, ◌+◌, ◌*◌, ◌/◌, ◌%◌, Bool, true, false, ◌&&◌, ◌||◌, not, IsTrue, List, [], ◌∷◌, nat_eq, nat_lt, nat_le, if◌then◌else◌}
-use Rattle.std.specs.Prelude.{Option, Some, None}
+-- 9899:1999, 6.3.2.1 and 6.5).
+use Rattle.std.specs.Prelude.{ℕ, Bool, true, false, ◌&&◌, ◌||◌, List, [], ◌∷◌, nat_eq, nat_le, Option, Some, None}
 use Rattle.std.specs.List.{list_any}
-use Rattle.c_types.specs.Types.{CType, Void, Integer, Pointer, Array, Struct, Size, One, Two, Four, StructType, size_of}
-use Rattle.clight_syntax.specs.TypedTrees.{Expr, Variable, Number, Parenthesis, Binary, Prefix, Cast, Index, Select, type_at}
-use Rattle.clight_source.specs.declared.tree.PrefixOperator.TheVariants.{Dereference}
+use Rattle.c_types.specs.Types.{CType, Void, Struct, StructType, size_of, type_eq}
+use Rattle.c_types.specs.Kinds.{is_integer, is_pointer, target_of, value_type}
 use Rattle.c_types.specs.Conversions.{unsigned_char}
-
--- ---- equality of types
-
-abbrev pub size_eq : Size → Size → Bool
-size_eq One One = true
-size_eq Two Two = true
-size_eq Four Four = true
-size_eq x y = false
-
-abbrev pub bool_eq : Bool → Bool → Bool
-bool_eq true b = b
-bool_eq false b = not b
-
-abbrev pub type_eq : CType → CType → Bool
-type_eq Void Void = true
-type_eq (Integer size signed) (Integer other sign) = size_eq size other && bool_eq signed sign
-type_eq (Pointer target) (Pointer other) = type_eq target other
-type_eq (Array element count) (Array other n) = type_eq element other && nat_eq count n
-type_eq (Struct number) (Struct other) = nat_eq number other
-type_eq type other = false
-
--- ---- kinds of types
-
-abbrev pub is_integer : CType → Bool
-is_integer (Integer size signed) = true
-is_integer type = false
-
-abbrev pub is_pointer : CType → Bool
-is_pointer (Pointer target) = true
-is_pointer type = false
-
--- 6.2.5: arithmetic and pointer types, of which the profile has the integer and pointer types
-abbrev pub is_scalar : CType → Bool
-is_scalar type = is_integer type || is_pointer type
-
-abbrev pub is_array : CType → Bool
-is_array (Array element count) = true
-is_array type = false
-
-abbrev pub is_four_bytes : CType → Bool
-is_four_bytes (Integer Four signed) = true
-is_four_bytes type = false
-
--- what a pointer points to; of another type any
-abbrev pub target_of : CType → CType
-target_of (Pointer target) = target
-target_of type = type
-
--- 6.3.2.1: an array that is used as a value is the pointer to its first element
-abbrev pub value_type : CType → CType
-value_type (Array element count) = Pointer element
-value_type type = type
+use Rattle.clight_source.specs.declared.tree.PrefixOperator.TheVariants.{Dereference}
+use Rattle.clight_syntax.specs.TypedTrees.{Expr, Variable, Number, Parenthesis, Binary, Prefix, Cast, Index, Select, type_at}
 
 -- ---- expressions
 

@@ -17,9 +17,9 @@ use Rattle.clight_source.specs.declared.tree.Specifiers.TheVariants as w
 use Rattle.clight_source.specs.Trees as s
 use Rattle.c_types.specs.Types.{CType, Void, Pointer, Member, StructType}
 use Rattle.clight_syntax.specs.TypedTrees.{Expr, Variable, Number, Parenthesis, Binary, Prefix, Cast, Index, Select, type_at, Cond, Truth, InParentheses, Not, Both, Either}
-use Rattle.c_types.specs.Conversions.{promoted, common, int}
-use Rattle.clight_syntax.specs.LiteralTypes.{literal_type}
-use Rattle.clight_types.specs.Operands.{is_integer, is_pointer, is_scalar, is_array, is_four_bytes, is_value, is_place, target_of, Operand, operand, steps_along}
+use Rattle.c_types.specs.Conversions.{promoted, common, int, literal_type}
+use Rattle.c_types.specs.Kinds.{is_integer, is_pointer, is_scalar, is_array, is_four_bytes, target_of}
+use Rattle.clight_types.specs.Operands.{is_value, is_place, Operand, operand, steps_along}
 use Rattle.clight_types.specs.Scopes.{Scope, Meaning, Object, Code, meaning_of, member_of}
 use Rattle.clight_types.specs.Declarations.{named_type}
 use Rattle.clight_types.specs.Expressions.{is_shift_count, are_integers, are_unsigned_chars, are_like_pointers, are_pointer_and_null, are_pointer_and_steps}
@@ -93,20 +93,20 @@ pub data Judged : Type 0 where
   Typed : (e : Expr) → Judged
   -- `!`, `&&` and `||`, in any parentheses, are conditions and have no type
   Logical : (c : Cond (Unit {0})) → Judged
-  -- the name of a function has none either
+  -- the name of a function, in any parentheses, has none either
   NoVariable : Judged
 
 -- where a value is needed
 abbrev pub value_in : s.Expr → Judged → Checked Expr
 value_in source (Typed e) = if is_value (type_at e) then Ok e else fault (expr_place source) k.Value
 value_in source (Logical c) = fault (bare_place source) k.Value
-value_in source NoVariable = fault (expr_place source) k.Value
+value_in source NoVariable = fault (bare_place source) k.Value
 
 -- where a condition is needed
 abbrev pub condition_in : s.Expr → Judged → Checked (Cond (Unit {0}))
 condition_in source (Typed e) = if is_scalar (operand e).type then Ok (Truth e) else fault (expr_place source) k.Condition
 condition_in source (Logical c) = Ok c
-condition_in source NoVariable = fault (expr_place source) k.Condition
+condition_in source NoVariable = fault (bare_place source) k.Condition
 
 -- where a place is needed: the operand of `&`, and the left side of `.`, `->` and `=`; the name of a function is none
 abbrev pub place_in : s.Expr → Judged → Checked (Option Expr)
@@ -124,10 +124,10 @@ judged_name None name = NoVariable
 abbrev pub judged_number : Literal → Span → Checked Judged
 judged_number x span = if is_four_bytes (literal_type x) then fault span.from k.Long else Ok (Typed (Number (literal_type x) x span))
 
-abbrev pub in_parentheses : Span → Span → s.Expr → Judged → Checked Judged
-in_parentheses left right source (Typed e) = Ok (Typed (Parenthesis (type_at e) left e right))
-in_parentheses left right source (Logical c) = Ok (Logical (InParentheses left c right))
-in_parentheses left right source NoVariable = fault (expr_place source) k.Value
+abbrev pub in_parentheses : Span → Span → Judged → Judged
+in_parentheses left right (Typed e) = Typed (Parenthesis (type_at e) left e right)
+in_parentheses left right (Logical c) = Logical (InParentheses left c right)
+in_parentheses left right NoVariable = NoVariable
 
 abbrev pub sum_type : List StructType → Operand → Operand → Option CType
 sum_type structs l r =
@@ -308,7 +308,7 @@ judged_select structs operator at member source x = do
 abbrev pub judged : Scope → s.Expr → Checked Judged
 judged scope (s.Variable name) = Ok (judged_name (meaning_of scope name.number) name)
 judged scope (s.Number number span) = judged_number number span
-judged scope (s.Parenthesis left e right) = judged scope e >>= in_parentheses left right e
+judged scope (s.Parenthesis left e right) = judged scope e >>= (λ x. Ok (in_parentheses left right x))
 judged scope (s.Binary l operator at r) = judged_binary scope.structs operator at l r (judged scope l) (judged scope r)
 judged scope (s.Prefix operator at e) = judged_prefix operator at e (judged scope e)
 judged scope (s.Cast left words right e) = judged_cast scope.structs left words right e (judged scope e)

@@ -2,12 +2,10 @@
 ghost use Rattle.std.specs.Prelude.{◌≡◌, map};
 ghost use Rattle.c_types.specs.Types.{type_of};
 ghost use Rattle.clight_syntax.specs.Code.TypedViews.{expr_of, earlier_argument_of, arguments_of};
-ghost use Rattle.clight_types.specs.Operands.{is_assignable, is_scalar as is_scalar_lem, operand};
-ghost use Rattle.clight_types.specs.Statements.{takes as takes_lem, variable_of as variable_of_lem, values_of, values_onto, are_assignable as are_assignable_lem, result_operand};
+ghost use Rattle.clight_types.specs.Operands.{is_assignable, operand};
+ghost use Rattle.clight_types.specs.Assignable.{takes as takes_lem, variable_of as variable_of_lem, values_of, values_onto, are_assignable as are_assignable_lem, result_operand};
 
-use crate::integers::integer_of;
 use crate::operands::{carried, is_integer_value, is_place, is_zero_number, target};
-use crate::types::same_type;
 use c_types::Ty;
 use clight_syntax::typed::{Arguments, EarlierArgument, Expr};
 
@@ -18,20 +16,10 @@ pub fn is_assignable_to(value: &Expr, ty: &Ty) -> bool
     match ty {
         Ty::U8 | Ty::I8 | Ty::I16 | Ty::U16 | Ty::I32 | Ty::U32 => is_integer_value(value),
         Ty::Pointer(wanted) => match target(value) {
-            Some(pointee) => same_type(pointee, wanted) || is_zero_number(value),
+            Some(pointee) => pointee.is_same(wanted) || is_zero_number(value),
             None => is_zero_number(value),
         },
         _ => false,
-    }
-}
-
-/// Whether a type is an integer or a pointer.
-pub fn is_scalar(ty: &Ty) -> bool
-    ensures { result ≡ is_scalar_lem (type_of ty.now) }
-{
-    match ty {
-        Ty::Void | Ty::Array(_, _) | Ty::Struct(_) => false,
-        _ => true,
     }
 }
 
@@ -39,7 +27,7 @@ pub fn is_scalar(ty: &Ty) -> bool
 pub fn takes(target: &Expr, value: &Expr) -> bool
     ensures { result ≡ takes_lem (expr_of target.now) (expr_of value.now) }
 {
-    is_place(target) && is_scalar(carried(target)) && is_assignable_to(value, carried(target))
+    is_place(target) && carried(target).is_scalar() && is_assignable_to(value, carried(target))
 }
 
 /// The variable that an expression is, in any parentheses.
@@ -58,8 +46,8 @@ pub fn is_result_assignable(result_type: &Ty, ty: &Ty) -> bool
     ensures { result ≡ is_assignable (result_operand (type_of result_type.now)) (type_of ty.now) }
 {
     match (result_type, ty) {
-        (Ty::Pointer(one), Ty::Pointer(other)) => same_type(one, other),
-        (_, _) => integer_of(result_type).is_some() && integer_of(ty).is_some(),
+        (Ty::Pointer(one), Ty::Pointer(other)) => one.is_same(other),
+        (_, _) => result_type.is_integer() && ty.is_integer(),
     }
 }
 

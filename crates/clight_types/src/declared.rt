@@ -9,7 +9,7 @@ ghost use Rattle.clight_types.specs.HeldStructs.{structs_of};
 
 use crate::members::named_type;
 use crate::structs::Structs;
-use crate::types::capped_size;
+use c_types::sizes::size_of as bytes_in;
 use cerco_base::NoMemory;
 use clight_source::tree::{Declaration, Declared, Length};
 use clight_syntax::{Span, Ty};
@@ -65,6 +65,16 @@ pub fn declared_start(x: &Declared) -> u32
     }
 }
 
+/// How many bytes a type has, counted up to 65,536.
+pub fn capped_size(structs: &Structs, ty: &Ty) -> u32
+    ensures { result ≡ min (size_of (structs_of structs.now) (type_of ty.now)) size_cap }
+{
+    match bytes_in(&structs.types, ty) {
+        Some(bytes) => bytes.min(65_536),
+        None => 65_536,
+    }
+}
+
 /// Whether a number of bytes, which is counted up to 65,536, is one that a type may have: 1 to 65,534.
 pub fn is_capped_size(bytes: u32) -> bool
     ensures { result ≡ is_size bytes }
@@ -92,12 +102,6 @@ pub fn capped_sum(left: u32, right: u32) -> u32
 pub fn offset_behind(offset: u32, structs: &Structs, ty: &Ty) -> Result<u32, NoMemory>
     ensures { IfOk result (λ n. n ≡ offset + size_of (structs_of structs.now) (type_of ty.now)) }
 {
-    let size = capped_size(structs, ty);
-    if 65_536 <= size {
-        return Err(NoMemory);
-    }
-    match offset.checked_add(size) {
-        Some(next) => Ok(next),
-        None => Err(NoMemory),
-    }
+    let size = bytes_in(&structs.types, ty).ok_or(NoMemory)?;
+    offset.checked_add(size).ok_or(NoMemory)
 }

@@ -9,9 +9,8 @@ ghost use Rattle.clight_types.specs.TypedExpressions.{judged_number, value_in as
 ghost use Rattle.clight_types.specs.Outcomes.{Gives};
 ghost use Rattle.clight_types.specs.HeldJudged.{judged_of};
 
-use crate::integers::{Width, literal_integer, type_for};
 use crate::operands::{carried, has_value, is_scalar_value};
-use crate::types::copied;
+use c_types::{IntegerType, Size};
 use cerco_base::{Fault, Reason, TypeKind};
 use clight_source::tree::{self, Specifiers};
 use clight_syntax::typed::Expr;
@@ -25,7 +24,7 @@ pub enum Judged {
     Typed(Expr),
     /// `!`, `&&` and `||`, in any parentheses, are conditions and have no type.
     Logical(Cond<()>),
-    /// The name of a function has none either.
+    /// The name of a function, in any parentheses, has none either.
     NoVariable,
 }
 
@@ -97,8 +96,9 @@ pub fn value_in(source: &tree::Expr, judged: Judged) -> Result<Expr, Fault>
             }
             Err(refused(place(source), TypeKind::Value))
         }
-        Judged::Logical(_) => Err(refused(bare_place(source), TypeKind::Value)),
-        Judged::NoVariable => Err(refused(place(source), TypeKind::Value)),
+        Judged::Logical(_) | Judged::NoVariable => {
+            Err(refused(bare_place(source), TypeKind::Value))
+        }
     }
 }
 
@@ -114,7 +114,7 @@ pub fn condition_in(source: &tree::Expr, judged: Judged) -> Result<Cond<()>, Fau
             Err(refused(place(source), TypeKind::Condition))
         }
         Judged::Logical(condition) => Ok(condition),
-        Judged::NoVariable => Err(refused(place(source), TypeKind::Condition)),
+        Judged::NoVariable => Err(refused(bare_place(source), TypeKind::Condition)),
     }
 }
 
@@ -134,10 +134,10 @@ pub fn place_in(source: &tree::Expr, judged: Judged) -> Result<Option<Expr>, Fau
 pub fn number(literal: Literal, span: Span) -> Result<Judged, Fault>
     ensures { Gives judged_of result (judged_number literal span) }
 {
-    let integer = literal_integer(literal);
-    match integer.width {
-        Width::Four => Err(refused(span.from, TypeKind::Long)),
-        _ => Ok(Judged::Typed(Expr::Number(type_for(integer), literal, span))),
+    let integer = IntegerType::of_literal(literal);
+    match integer.size {
+        Size::Four => Err(refused(span.from, TypeKind::Long)),
+        _ => Ok(Judged::Typed(Expr::Number(integer.as_type(), literal, span))),
     }
 }
 
@@ -146,14 +146,13 @@ pub fn in_parentheses(
     alloc: Global,
     left: Span,
     right: Span,
-    source: &tree::Expr,
     judged: Judged,
 ) -> Result<Judged, Fault>
-    ensures { Gives judged_of result (in_parentheses_lem left right (source_of source.now) (judged_of judged)) }
+    ensures { Gives judged_of result (Ok (in_parentheses_lem left right (judged_of judged))) }
 {
     match judged {
         Judged::Typed(e) => {
-            let ty = copied(alloc, carried(&e))?;
+            let ty = carried(&e).duplicate(alloc)?;
             Ok(Judged::Typed(Expr::Parenthesis(ty, left, Box::new(alloc, e)?, right)))
         }
         Judged::Logical(condition) => Ok(Judged::Logical(Cond::Parenthesis(
@@ -161,6 +160,6 @@ pub fn in_parentheses(
             Box::new(alloc, condition)?,
             right,
         ))),
-        Judged::NoVariable => Err(refused(place(source), TypeKind::Value)),
+        Judged::NoVariable => Ok(Judged::NoVariable),
     }
 }

@@ -3,14 +3,12 @@
 
 pub mod assignable;
 pub mod declared;
-pub mod found;
-pub mod integers;
 pub mod judged;
 pub mod members;
+pub mod names;
 pub mod nodes;
 pub mod operands;
 pub mod parameters;
 pub mod places;
 pub mod rows;
 pub mod structs;
-pub mod types;

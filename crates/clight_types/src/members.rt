@@ -1,8 +1,8 @@
 //! The struct that a tag means, and the members of structs (ISO/IEC 9899:1999, 6.5.2.3 and 6.7.2).
 ghost use Rattle.std.specs.Prelude.{◌≡◌, IfOk};
 ghost use Rattle.std.specs.Option.{option_map};
-ghost use Rattle.c_types.specs.Types.{type_of};
-ghost use Rattle.clight_syntax.specs.Code.TypedViews.{expr_of, member_of as member_type_of};
+ghost use Rattle.c_types.specs.Types.{type_of, member_of as member_type_of};
+ghost use Rattle.clight_syntax.specs.Code.TypedViews.{expr_of};
 ghost use Rattle.clight_types.specs.Scopes.{member_of as member_of_lem};
 ghost use Rattle.clight_types.specs.Declarations.{named_type as named_type_lem};
 ghost use Rattle.clight_types.specs.HeldJudged.{judged_of};
@@ -13,10 +13,10 @@ ghost use Rattle.clight_types.specs.HeldStructs.{structs_of};
 use crate::judged::{Judged, refused};
 use crate::operands::{carried, target};
 use crate::structs::Structs;
-use crate::types::copied;
+use c_types::MemberType;
 use cerco_base::{Fault, NoMemory, TypeKind};
 use clight_source::tree::{MemberOperator, Name, Specifiers};
-use clight_syntax::typed::{Expr, MemberType};
+use clight_syntax::typed::Expr;
 use clight_syntax::{Span, Ty};
 use std::alloc::Global;
 
@@ -27,10 +27,7 @@ fn member_of<'a>(structs: &'a Structs, ty: &Ty, name: u32) -> Option<&'a MemberT
     let Ty::Struct(number) = ty else {
         return None;
     };
-    match structs.get(*number) {
-        Some(found) => found.member(name),
-        None => None,
-    }
+    structs.member(*number, name)
 }
 
 /// The member that is selected from an expression, if there is one.
@@ -67,7 +64,7 @@ pub fn select(
     };
     match selected(structs, operator, &e, member.number) {
         Some(found) => {
-            let ty = copied(alloc, &found.ty)?;
+            let ty = found.ty.duplicate(alloc)?;
             let offset = found.offset;
             Ok(Judged::Typed(Expr::Member(ty, Box::new(alloc, e)?, operator, at, member, offset)))
         }
@@ -75,7 +72,7 @@ pub fn select(
     }
 }
 
-/// The type that the words of a type give (ISO/IEC 9899:1999, 6.7.2). A struct's number above 2 to the 32nd counts as want of
+/// The type that the words of a type give (ISO/IEC 9899:1999, 6.7.2). A struct's number above 2 to the 32nd counts as out of
 /// memory.
 pub fn named_type(structs: &Structs, words: Specifiers) -> Result<Ty, NoMemory>
     ensures { IfOk result (λ x. type_of x ≡ named_type_lem (structs_of structs.now) words) }

@@ -6,21 +6,20 @@ ghost use Rattle.clight_syntax.specs.TypedTrees.{Prefix};
 ghost use Rattle.clight_source.specs.Code.Views.{expr_of as source_of};
 ghost use Rattle.clight_syntax.specs.Code.TypedViews.{expr_of, cond_of};
 ghost use Rattle.cerco_base.specs.declared.reasons.TypeKind.TheVariants.{Operand as OperandKind};
-ghost use Rattle.clight_types.specs.Operands.{operand, is_array};
+ghost use Rattle.c_types.specs.Kinds.{is_array};
+ghost use Rattle.clight_types.specs.Operands.{operand};
 ghost use Rattle.clight_types.specs.Held.{row_type};
 ghost use Rattle.clight_types.specs.HeldJudged.{judged_of};
 ghost use Rattle.clight_types.specs.Outcomes.{Gives};
 ghost use Rattle.clight_types.specs.TypedExpressions.{Typed, Logical, or_fault, of_values, of_conditions, binary_kind, is_logical_operator, promoted_type, dereferenced_type, address_of, cast_form, cast_judged, element_form, element_judged};
 ghost use Rattle.clight_types.specs.HeldStructs.{structs_of};
 
-use crate::integers::{promoted_integer, type_for};
 use crate::judged::{Judged, refused, value_in};
 use crate::operands::{
     carried, is_integer_value, is_place, is_pointer_and_steps, target, value_integer,
 };
 use crate::rows::{Row, binary_row};
 use crate::structs::Structs;
-use crate::types::copied;
 use cerco_base::{Fault, NoMemory, TypeKind};
 use clight_source::tree::{self, BinaryOperator, PrefixOperator, Specifiers};
 use clight_syntax::typed::Expr;
@@ -33,10 +32,10 @@ fn value_type(alloc: Global, e: &Expr) -> Result<Ty, NoMemory>
 {
     match carried(e) {
         Ty::Array(element, _) => {
-            let copy = copied(alloc, element)?;
+            let copy = element.duplicate(alloc)?;
             Ok(Ty::Pointer(Box::new(alloc, copy)?))
         }
-        ty => copied(alloc, ty),
+        ty => ty.duplicate(alloc),
     }
 }
 
@@ -45,7 +44,7 @@ fn typed_row(alloc: Global, row: Row, left: &Expr, right: &Expr) -> Result<Ty, N
     ensures { IfOk result (λ x. type_of x ≡ row_type (operand (expr_of left.now)) (operand (expr_of right.now)) row) }
 {
     match row {
-        Row::Of(integer) => Ok(type_for(integer)),
+        Row::Of(integer) => Ok(integer.as_type()),
         Row::Left => value_type(alloc, left),
         Row::Right => value_type(alloc, right),
     }
@@ -118,7 +117,7 @@ pub fn promoted(alloc: Global, operator: PrefixOperator, at: Span, e: Expr) -> R
 {
     match value_integer(&e) {
         Some(integer) => {
-            let ty = type_for(promoted_integer(integer));
+            let ty = integer.promoted().as_type();
             Ok(Judged::Typed(Expr::Prefix(ty, operator, at, Box::new(alloc, e)?)))
         }
         None => Err(refused(at.from, TypeKind::Operand)),
@@ -131,7 +130,7 @@ pub fn dereferenced(alloc: Global, at: Span, e: Expr) -> Result<Judged, Fault>
 {
     match target(&e) {
         Some(pointee) => {
-            let ty = copied(alloc, pointee)?;
+            let ty = pointee.duplicate(alloc)?;
             Ok(Judged::Typed(Expr::Prefix(
                 ty,
                 PrefixOperator::Dereference,
@@ -143,26 +142,16 @@ pub fn dereferenced(alloc: Global, at: Span, e: Expr) -> Result<Judged, Fault>
     }
 }
 
-/// Whether an expression carries the type of an array.
-fn is_array_place(e: &Expr) -> bool
-    ensures { result ≡ is_array (Rattle.clight_syntax.specs.TypedTrees.type_at (expr_of e.now)) }
-{
-    match carried(e) {
-        Ty::Array(_, _) => true,
-        _ => false,
-    }
-}
-
 /// `&e`. Refused with `Operand` where e is no place, or an array.
 pub fn address(alloc: Global, at: Span, e: Option<Expr>) -> Result<Judged, Fault>
     ensures { Gives judged_of result (address_of at (option_map expr_of e)) }
 {
     match e {
         Some(e) => {
-            if !is_place(&e) || is_array_place(&e) {
+            if !is_place(&e) || carried(&e).is_array() {
                 return Err(refused(at.from, TypeKind::Operand));
             }
-            let target = copied(alloc, carried(&e))?;
+            let target = carried(&e).duplicate(alloc)?;
             let ty = Ty::Pointer(Box::new(alloc, target)?);
             Ok(Judged::Typed(Expr::Prefix(ty, PrefixOperator::AddressOf, at, Box::new(alloc, e)?)))
         }
@@ -186,7 +175,7 @@ fn element_of(
     }
     match target(&base) {
         Some(pointee) => {
-            let ty = copied(alloc, pointee)?;
+            let ty = pointee.duplicate(alloc)?;
             let base = Box::new(alloc, base)?;
             let index = Box::new(alloc, index)?;
             Ok(Judged::Typed(Expr::Index(ty, base, left, index, right)))
@@ -206,8 +195,7 @@ fn cast_of(
 ) -> Result<Judged, Fault>
     ensures { Gives judged_of result (cast_form left words right (type_of ty) (expr_of e)) }
 {
-    let is_integer = crate::integers::integer_of(&ty).is_some();
-    if !is_integer || !is_integer_value(&e) {
+    if !ty.is_integer() || !is_integer_value(&e) {
         return Err(refused(left.from, TypeKind::Operand));
     }
     Ok(Judged::Typed(Expr::Cast(ty, left, words, right, Box::new(alloc, e)?)))

@@ -1,20 +1,19 @@
 //! What an expression is to the operator beside it (ISO/IEC 9899:1999, 6.3.2.1 and 6.5).
 ghost use Rattle.std.specs.Prelude.{◌≡◌, Some, None, if◌then◌else◌};
 ghost use Rattle.std.specs.Option.{option_map};
-ghost use Rattle.c_types.specs.Types.{type_of};
+ghost use Rattle.c_types.specs.Types.{type_of, type_eq};
 ghost use Rattle.clight_syntax.specs.TypedTrees.{type_at};
 ghost use Rattle.clight_syntax.specs.Code.TypedViews.{expr_of};
-ghost use Rattle.clight_types.specs.Operands.{is_integer, is_pointer, is_scalar, is_value, is_array, is_zero, target_of, type_eq, operand};
+ghost use Rattle.c_types.specs.Kinds.{is_integer, is_pointer, is_scalar, target_of, type_for};
+ghost use Rattle.clight_types.specs.Operands.{is_value, is_zero, operand};
 ghost use Rattle.clight_types.specs.Operands.{number_of as number_of_lem, is_place as is_place_lem, steps_over as steps_over_lem};
 ghost use Rattle.clight_types.specs.Expressions.{are_pointer_and_steps};
 ghost use Rattle.c_types.specs.Conversions.{unsigned_char};
-ghost use Rattle.clight_types.specs.Held.{integer_type};
 ghost use Rattle.clight_types.specs.HeldStructs.{structs_of};
 
-use crate::integers::{Integer, integer_of};
+use crate::declared::capped_size;
 use crate::structs::Structs;
-use crate::types::capped_size;
-use c_types::Ty;
+use c_types::{IntegerType, Ty};
 use clight_source::tree::PrefixOperator;
 use clight_syntax::typed::Expr;
 
@@ -59,31 +58,24 @@ pub fn is_place(e: &Expr) -> bool
 }
 
 /// The integer type of an expression's value, if it is one.
-pub fn value_integer(e: &Expr) -> Option<Integer>
-    ensures { option_map integer_type result ≡ (if is_integer (operand (expr_of e.now)).type then Some (operand (expr_of e.now)).type else None) }
+pub fn value_integer(e: &Expr) -> Option<IntegerType>
+    ensures { option_map type_for result ≡ (if is_integer (operand (expr_of e.now)).type then Some (operand (expr_of e.now)).type else None) }
 {
-    integer_of(carried(e))
+    IntegerType::of(carried(e))
 }
 
 /// Whether the value of an expression is an integer.
 pub fn is_integer_value(e: &Expr) -> bool
     ensures { result ≡ is_integer (operand (expr_of e.now)).type }
 {
-    match carried(e) {
-        Ty::U8 | Ty::I8 | Ty::I16 | Ty::U16 | Ty::I32 | Ty::U32 => true,
-        _ => false,
-    }
+    carried(e).is_integer()
 }
 
 /// What the value of an expression points to, if it is a pointer. An array is the pointer to its first element.
 pub fn target(e: &Expr) -> Option<&Ty>
     ensures { option_map (λ x. type_of x.now) result ≡ (if is_pointer (operand (expr_of e.now)).type then Some (target_of (operand (expr_of e.now)).type) else None) }
 {
-    match carried(e) {
-        Ty::Pointer(target) => Some(target),
-        Ty::Array(element, _) => Some(element),
-        _ => None,
-    }
+    carried(e).target()
 }
 
 /// Whether the value of an expression is an integer or a pointer.

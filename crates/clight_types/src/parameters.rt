@@ -1,14 +1,12 @@
 //! The types of parameters together.
 ghost use Rattle.std.specs.Prelude.{◌≡◌, map, min};
 ghost use Rattle.c_types.specs.Types.{type_of};
-ghost use Rattle.clight_types.specs.Declarations.{bytes_of};
-ghost use Rattle.clight_types.specs.Functions.{types_eq};
+ghost use Rattle.clight_types.specs.Declarations.{bytes_of, types_eq};
 ghost use Rattle.clight_types.specs.Held.{size_cap};
 ghost use Rattle.clight_types.specs.HeldStructs.{structs_of};
 
-use crate::declared::capped_sum;
+use crate::declared::{capped_size, capped_sum};
 use crate::structs::Structs;
-use crate::types::{capped_size, same_type};
 use c_types::Ty;
 
 /// How many bytes values of these types have together, or 65,536 where it is more.
@@ -29,7 +27,7 @@ pub fn are_same_types(left: &[Ty], right: &[Ty]) -> bool
     let mut next = 0;
     for one in left {
         match right.get(next) {
-            Some(other) if same_type(one, other) => next += 1,
+            Some(other) if one.is_same(other) => next += 1,
             _ => return false,
         }
     }

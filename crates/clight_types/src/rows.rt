@@ -10,13 +10,12 @@ ghost use Rattle.clight_types.specs.TypedExpressions.{sum_type, difference_type,
 ghost use Rattle.clight_types.specs.Held.{row_type};
 ghost use Rattle.clight_types.specs.HeldStructs.{structs_of};
 
-use crate::integers::{Integer, common_integer, int, promoted_integer};
 use crate::operands::{
     is_integer_value, is_pointer_and_steps, is_unsigned_char, is_zero_number, number_of, target,
     value_integer,
 };
 use crate::structs::Structs;
-use crate::types::same_type;
+use c_types::IntegerType;
 use clight_source::tree::BinaryOperator;
 use clight_syntax::typed::Expr;
 
@@ -24,7 +23,7 @@ use clight_syntax::typed::Expr;
 #[derive(Clone, Copy)]
 pub enum Row {
     /// An integer type.
-    Of(Integer),
+    Of(IntegerType),
     /// The type of the left operand's value.
     Left,
     /// The type of the right operand's value.
@@ -47,7 +46,7 @@ fn are_two_like_pointers(left: &Expr, right: &Expr) -> bool
     ensures { result ≡ are_like_pointers (operand (expr_of left.now)) (operand (expr_of right.now)) }
 {
     match (target(left), target(right)) {
-        (Some(one), Some(other)) => same_type(one, other),
+        (Some(one), Some(other)) => one.is_same(other),
         (_, _) => false,
     }
 }
@@ -72,7 +71,7 @@ fn bits_row(left: &Expr, right: &Expr) -> Option<Row>
     ensures { option_map (row_type (operand (expr_of left.now)) (operand (expr_of right.now))) result ≡ bits_type (operand (expr_of left.now)) (operand (expr_of right.now)) }
 {
     match (value_integer(left), value_integer(right)) {
-        (Some(one), Some(other)) => Some(Row::Of(common_integer(one, other))),
+        (Some(one), Some(other)) => Some(Row::Of(one.common(other))),
         (_, _) => None,
     }
 }
@@ -111,7 +110,7 @@ fn product_row(left: &Expr, right: &Expr) -> Option<Row>
     ensures { option_map (row_type (operand (expr_of left.now)) (operand (expr_of right.now))) result ≡ product_type (operand (expr_of left.now)) (operand (expr_of right.now)) }
 {
     if are_two_unsigned_chars(left, right) {
-        return Some(Row::Of(int()));
+        return Some(Row::Of(IntegerType::int()));
     }
     None
 }
@@ -121,7 +120,7 @@ fn shift_row(left: &Expr, right: &Expr) -> Option<Row>
     ensures { option_map (row_type (operand (expr_of left.now)) (operand (expr_of right.now))) result ≡ shift_type (operand (expr_of left.now)) (operand (expr_of right.now)) }
 {
     match value_integer(left) {
-        Some(integer) if is_a_shift_count(right) => Some(Row::Of(promoted_integer(integer))),
+        Some(integer) if is_a_shift_count(right) => Some(Row::Of(integer.promoted())),
         _ => None,
     }
 }
@@ -131,7 +130,7 @@ fn order_row(left: &Expr, right: &Expr) -> Option<Row>
     ensures { option_map (row_type (operand (expr_of left.now)) (operand (expr_of right.now))) result ≡ order_type (operand (expr_of left.now)) (operand (expr_of right.now)) }
 {
     if are_two_integers(left, right) || are_two_like_pointers(left, right) {
-        return Some(Row::Of(int()));
+        return Some(Row::Of(IntegerType::int()));
     }
     None
 }
@@ -142,7 +141,7 @@ fn equality_row(left: &Expr, right: &Expr) -> Option<Row>
 {
     let alike = are_two_integers(left, right) || are_two_like_pointers(left, right);
     if alike || is_pointer_and_null(left, right) || is_pointer_and_null(right, left) {
-        return Some(Row::Of(int()));
+        return Some(Row::Of(IntegerType::int()));
     }
     None
 }

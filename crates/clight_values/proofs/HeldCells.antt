@@ -1,22 +1,17 @@
 -- What the memory holds, after a write of a cell.
 use Rattle.std.proofs.Common.{◌≡◌, ℕ, ◌<◌, List, length, get_or, Option, Some, Ok, sym, ap, ◌∙◌}
-use Rattle.std.specs.Prelude.{slice_get, slice_set, option_map, option_copied}
+use Rattle.std.specs.Prelude.{slice_get, slice_set, option_map}
 use Rattle.std.proofs.lemmas.List.{map-set, take-map}
 use Rattle.std.proofs.lemmas.Option.{slice_get-map, slice_get-get_or}
-use Rattle.std.proofs.Common.{take, min, arith, ◌^◌}
-use Rattle.std.specs.Borrow.{Bor}
-use Rattle.clight_syntax.specs.declared.typed.StructType.{StructType}
-use Rattle.clight_syntax.specs.Code.TypedViews.{struct_type_of}
-use Rattle.c_types.specs.declared.types.Ty.{Ty}
-use Rattle.c_types.specs.declared.types.Ty.TheVariants as t
-use Rattle.c_types.specs.Types.{CType, struct_size, size_of, Struct, type_of}
+use Rattle.std.proofs.Common.{take}
+use Rattle.c_types.specs.Types.{CType}
 use Rattle.clight_values.specs.declared.value.Value.{Value}
 use Rattle.clight_values.specs.declared.value.Value.TheVariants as v
 use Rattle.clight_values.specs.declared.value.Place.{Place}
 use Rattle.clight_values.specs.declared.value.Block.{Block}
 use Rattle.clight_values.specs.declared.memory.Cell.{Cell}
 use Rattle.clight_values.specs.Memory.{Memory, left, accessed, stored, stored_at, put}
-use Rattle.clight_values.specs.Views.{cell_held, cells_held, structs_held}
+use Rattle.clight_values.specs.Views.{cell_held, cells_held}
 
 -- the cell that is held at a number
 pub cell_at : (cells : List Cell) (i : ℕ) (c : Cell) → i < length cells → c ≡ get_or cells i c → slice_get (cells_held cells) i ≡ Some (cell_held c)
@@ -35,14 +30,3 @@ stored_is cells blocks T pointer w at i c is found low held =
 pub left_is : (cells kept : List Cell) (blocks : List Block) (m n : ℕ) → kept ≡ take n cells
     → left m n (record { cells = cells_held cells; blocks = blocks }) ≡ record { cells = cells_held kept; blocks = take m blocks }
 left_is cells kept blocks m n e = ap (λ cs. record { cells = cs; blocks = take m blocks }) (take-map cell_held n cells ∙ ap cells_held (sym e))
-
--- the struct with a number, where the program has none or this one
-pub struct_size_at : (structs : List StructType) (number : ℕ) (found : Option (Bor StructType)) → option_copied found ≡ slice_get structs number
-    → size_of (structs_held structs) (Struct number) ≡ struct_size (option_map struct_type_of (option_copied found))
-struct_size_at structs number found e = ap struct_size (slice_get-map struct_type_of structs number ∙ ap (option_map struct_type_of) (sym e))
-
-pub size_at : (structs : List StructType) (ty : Ty) (number : ℕ) (s : Bor StructType) (n : ℕ) → ty ≡ t.Struct number → option_copied (Some s) ≡ slice_get structs number
-    → n ≡ s.now.size → n < 2 ^ 32 → n ≡ min (size_of (structs_held structs) (type_of ty)) (2 ^ 32)
-size_at structs ty number s n is found same low =
-    let size : size_of (structs_held structs) (type_of ty) ≡ s.now.size = ap (λ u. size_of (structs_held structs) (type_of u)) is ∙ struct_size_at structs number (Some s) found in
-    omega arith

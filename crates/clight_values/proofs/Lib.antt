@@ -1,4 +1,3 @@
-pub mod Common
 pub mod Walks
 pub mod Shifts
 pub mod HeldCells

@@ -4,12 +4,11 @@ use Rattle.std.proofs.lemmas.List.{append-nil, map-append}
 use Rattle.std.specs.Prelude.{slice_get, option_map, option_copied}
 use Rattle.std.specs.Borrow.{Bor}
 use Rattle.std.proofs.lemmas.Option.{slice_get-map}
-use Rattle.c_types.specs.Types.{CType, Void, Integer, Pointer, Array, Struct, Member, StructType, type_of}
-use Rattle.clight_syntax.specs.declared.typed.StructType.{StructType as HeldStruct}
-use Rattle.clight_syntax.specs.declared.typed.MemberType.{MemberType}
+use Rattle.c_types.specs.Types.{CType, Void, Integer, Pointer, Array, Struct, Member, StructType, type_of, struct_type_of, member_of}
+use Rattle.c_types.specs.declared.structs.StructType.{StructType as HeldStruct}
+use Rattle.c_types.specs.declared.structs.MemberType.{MemberType}
 use Rattle.c_types.specs.declared.types.Ty.{Ty}
 use Rattle.c_types.specs.declared.types.Ty.TheVariants as t
-use Rattle.clight_syntax.specs.Code.TypedViews.{struct_type_of, member_of}
 use Rattle.clight_values.specs.Memory.{Cell, Kinds, repeated, kinds_by, kinds_of_members, kinds_of_struct, nested_kinds, unset}
 use Rattle.clight_values.specs.Views.{structs_held}
 use Rattle.clight_values.proofs.Walks.{opened}

@@ -2,9 +2,11 @@
 use Rattle.std.proofs.Common.{◌≡◌, ℕ, ◌+◌, ◌-◌, ◌*◌, ◌/◌, ◌%◌, ◌^◌, ◌<◌, ◌≤◌, sym, ap, ◌∙◌, arith}
 use Rattle.std.proofs.lemmas.Nat.{div_below, mod-mul-add, pow-add, pow_pos}
 use Rattle.std.proofs.Math.Pow.{pow_mono}
-use Rattle.c_types.specs.Types.{Size, One, Two, Four}
+use Rattle.c_types.specs.declared.integers.Size.TheVariants.{One, Two, Four}
+use Rattle.c_types.specs.declared.integers.Size.{Size}
 use Rattle.c_types.specs.Conversions.{count}
-use Rattle.clight_values.specs.Values.{IntegerType, shifted_left}
+use Rattle.c_types.specs.declared.integers.IntegerType.{IntegerType}
+use Rattle.clight_values.specs.Values.{shifted_left}
 
 -- nothing is left of a value
 pub shifted_out : (x by : ℕ) → x < 2 ^ 32 → 32 ≤ by → 0 ≡ x / 2 ^ by

@@ -8,12 +8,13 @@ use Rattle.clight_source.specs.Trees.{Initialiser, NoInitialiser, Single, Listed
 use Rattle.c_types.specs.Types.{CType, Integer}
 use Rattle.clight_values.specs.declared.value.Value as w
 use Rattle.clight_values.specs.declared.value.Value.TheVariants as v
-use Rattle.clight_values.specs.Values.{converted, difference, literal_type}
+use Rattle.c_types.specs.Conversions.{literal_integer}
+use Rattle.clight_values.specs.Values.{converted, difference}
 use Rattle.clight_values.specs.Memory.{Cell, Kinds, initial, left}
 
 abbrev pub signed_bits_of : Literal → Option Span → ℕ
 signed_bits_of l None = l.value
-signed_bits_of l (Some minus) = difference (literal_type l) 0 l.value
+signed_bits_of l (Some minus) = difference (literal_integer l) 0 l.value
 
 -- the bits of a number, perhaps with a `-` before it
 abbrev pub signed_bits : SignedNumber → ℕ
@@ -21,7 +22,7 @@ signed_bits n = signed_bits_of n.number n.minus
 
 -- the first value of a scalar of this type by a number
 abbrev pub given : CType → SignedNumber → w.Value
-given (Integer size signed) n = v.Integer (converted (literal_type n.number) (record { size = size; signed = signed }) (signed_bits n))
+given (Integer size signed) n = v.Integer (converted (literal_integer n.number) (record { size = size; signed = signed }) (signed_bits n))
 given T n = initial T
 
 abbrev pub first_value : CType → Option SignedNumber → w.Value

@@ -4,11 +4,12 @@
 use Rattle.std.specs.Prelude.{ℕ, zero, suc, ◌+◌, ◌-◌, ◌*◌, Bool, true, false, not, ◌&&◌, ◌||◌, nat_eq, nat_lt, List, [], ◌∷◌, ◌++◌, length, take, replicate, map, Option, Some, None, Result, Ok, Err, if◌then◌else◌, slice_get, slice_set}
 use Rattle.cerco_base.specs.declared.events.FaultKind.{FaultKind}
 use Rattle.cerco_base.specs.declared.events.FaultKind.TheVariants.{Unset, Outside, Dead, Compare}
-use Rattle.c_types.specs.Types.{Size, One, Two, Four, bytes, CType, Void, Integer, Pointer, Array, Struct, Member, StructType}
+use Rattle.c_types.specs.Types.{bytes, type_eq, bool_eq, CType, Void, Integer, Pointer, Array, Struct, Member, StructType}
 use Rattle.clight_syntax.specs.TypedTrees.{Variable'}
 use Rattle.clight_syntax.specs.declared.typed.Home.{Home}
 use Rattle.clight_syntax.specs.declared.typed.Home.TheVariants as home
-use Rattle.clight_values.specs.Values.{IntegerType, is_negative, magnitude}
+use Rattle.c_types.specs.declared.integers.IntegerType.{IntegerType}
+use Rattle.clight_values.specs.Values.{is_negative, magnitude}
 use Rattle.clight_values.specs.declared.value.Place.{Place}
 use Rattle.clight_values.specs.declared.value.Block.{Block}
 use Rattle.clight_values.specs.declared.value.Value.{Value}
@@ -61,25 +62,7 @@ nested_kinds structs (suc depth) number = kinds_of_struct (nested_kinds structs 
 abbrev pub kinds_of : List StructType → CType → Kinds
 kinds_of structs = kinds_by (nested_kinds structs (length structs))
 
--- ---- types
-
-abbrev pub same_size : Size → Size → Bool
-same_size One One = true
-same_size Two Two = true
-same_size Four Four = true
-same_size _ _ = false
-
-abbrev pub same_sign : Bool → Bool → Bool
-same_sign true b = b
-same_sign false b = not b
-
-abbrev pub same_type : CType → CType → Bool
-same_type Void Void = true
-same_type (Integer s g) (Integer t h) = same_size s t && same_sign g h
-same_type (Pointer S) (Pointer T) = same_type S T
-same_type (Array S m) (Array T n) = nat_eq m n && same_type S T
-same_type (Struct m) (Struct n) = nat_eq m n
-same_type _ _ = false
+-- ---- first values
 
 -- the value with which a scalar of this type begins
 abbrev pub initial : CType → Value
@@ -109,7 +92,7 @@ cell_of m at = cell_in (live m at) at.offset
 
 abbrev pub is_kind : Option CType → CType → Bool
 is_kind None T = false
-is_kind (Some S) T = same_type S T
+is_kind (Some S) T = type_eq S T
 
 -- whether a scalar of exactly this type begins in a cell
 abbrev pub begins : Option Cell → CType → Bool
@@ -171,7 +154,7 @@ moved m (v.Integer n) back by = Err Outside
 
 -- a pointer steps by an integer over elements of so many bytes, or back
 abbrev pub stepped : Memory → ℕ → Bool → Value → IntegerType → Value → Answer
-stepped m size back p T (v.Integer n) = moved m p (not (same_sign back (is_negative T n))) (magnitude T n * size)
+stepped m size back p T (v.Integer n) = moved m p (not (bool_eq back (is_negative T n))) (magnitude T n * size)
 stepped m size back p T v.Null = Err Outside
 stepped m size back p T (v.Pointer at) = Err Outside
 
@@ -238,11 +221,6 @@ abbrev pub left : ℕ → ℕ → Memory → Memory
 left blocks cells m = record { cells = take cells m.cells; blocks = take blocks m.blocks }
 
 -- ---- variables
-
-abbrev pub is_scalar : CType → Bool
-is_scalar (Integer size signed) = true
-is_scalar (Pointer target) = true
-is_scalar _ = false
 
 -- with these cells as a block before more, for a variable that lives in a block of its call
 abbrev pub block_in : Home → List Cell → List (List Cell) → List (List Cell)

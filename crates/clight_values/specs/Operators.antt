@@ -5,28 +5,14 @@ use Rattle.cerco_base.specs.declared.events.FaultKind.{FaultKind}
 use Rattle.cerco_base.specs.declared.events.FaultKind.TheVariants.{Outside}
 use Rattle.clight_source.specs.declared.tree.BinaryOperator.{BinaryOperator}
 use Rattle.clight_source.specs.declared.tree.BinaryOperator.TheVariants as op
+use Rattle.c_types.specs.Kinds.{integer_type, target_of}
 use Rattle.c_types.specs.Types.{CType, Void, Integer, Pointer, Array, StructType, size_of}
 use Rattle.clight_values.specs.declared.value.Value.{Value}
 use Rattle.clight_values.specs.declared.value.Value.TheVariants as v
-use Rattle.clight_values.specs.Values.{IntegerType, converted, promoted, difference, complement, truth, combined}
+use Rattle.c_types.specs.Conversions.{promoted_integer}
+use Rattle.c_types.specs.declared.integers.IntegerType.{IntegerType}
+use Rattle.clight_values.specs.Values.{converted, difference, complement, truth, combined}
 use Rattle.clight_values.specs.Memory.{Answer, Memory, stepped, equal, less}
-
--- ---- types
-
-abbrev pub integer_type : CType → Option IntegerType
-integer_type (Integer size signed) = Some (record { size = size; signed = signed })
-integer_type _ = None
-
--- 6.3.2.1: an array that is used as a value is a pointer to its first element
-abbrev pub is_array : CType → Bool
-is_array (Array element n) = true
-is_array _ = false
-
--- what a pointer of this type points to, and an array's first element
-abbrev pub target_type : CType → CType
-target_type (Pointer target) = target
-target_type (Array element n) = element
-target_type _ = Void
 
 -- ---- conversions (6.3.1.3, 6.3.2.3, 6.5.16.1)
 
@@ -101,8 +87,8 @@ of_pointers m _ p q = Err Outside
 
 abbrev pub operated_by : List StructType → Memory → BinaryOperator → CType → CType → Option IntegerType → Option IntegerType → Value → Value → Answer
 operated_by structs m o S T (Some I) (Some J) x y = of_integers o I J x y
-operated_by structs m o S T None (Some J) x y = of_pointer_and_integer m o (size_of structs (target_type S)) x J y
-operated_by structs m o S T (Some I) None x y = of_integer_and_pointer m o (size_of structs (target_type T)) I x y
+operated_by structs m o S T None (Some J) x y = of_pointer_and_integer m o (size_of structs (target_of S)) x J y
+operated_by structs m o S T (Some I) None x y = of_integer_and_pointer m o (size_of structs (target_of T)) I x y
 operated_by structs m o S T None None x y = of_pointers m o x y
 
 -- an operator on values of these two types
@@ -111,11 +97,11 @@ operated structs m o S T x y = operated_by structs m o S T (integer_type S) (int
 
 -- 6.5.3.3
 abbrev pub negated : Option IntegerType → Value → Answer
-negated (Some T) (v.Integer n) = Ok (v.Integer (difference (promoted T) 0 (converted T (promoted T) n)))
+negated (Some T) (v.Integer n) = Ok (v.Integer (difference (promoted_integer T) 0 (converted T (promoted_integer T) n)))
 negated _ _ = Err Outside
 
 abbrev pub complemented : Option IntegerType → Value → Answer
-complemented (Some T) (v.Integer n) = Ok (v.Integer (complement (promoted T) (converted T (promoted T) n)))
+complemented (Some T) (v.Integer n) = Ok (v.Integer (complement (promoted_integer T) (converted T (promoted_integer T) n)))
 complemented _ _ = Err Outside
 
 -- 6.5.2.1: the element's place

@@ -1,24 +1,18 @@
--- The arithmetic of integers (ISO/IEC 9899:1999, 6.3.1, 6.4.4.1 and 6.5.3 to 6.5.12). An integer is given by the bits of its type,
+-- The arithmetic of integers (ISO/IEC 9899:1999, 6.3.1 and 6.5.3 to 6.5.12). An integer is given by the bits of its type,
 -- in two's complement: a number below 2 to the number of its type's bits. Where the standard leaves a choice, the compiler's
 -- profile takes these: a conversion to a signed type is modulo, like that to an unsigned one; signed results wrap; `>>` of a
 -- negative value keeps the sign.
 use Rattle.std.specs.Prelude.{ℕ, zero, suc, ◌+◌, ◌-◌, ◌*◌, ◌/◌, ◌%◌, ◌^◌, Bool, true, false, not, nat_eq, nat_lt, nat_le, bit_and, bit_or, bit_xor, Result, Ok, Err, if◌then◌else◌}
 use Rattle.cerco_base.specs.declared.events.FaultKind.{FaultKind}
 use Rattle.cerco_base.specs.declared.events.FaultKind.TheVariants.{Outside, Zero}
-use Rattle.clight_source.specs.declared.symbol.Literal.{Literal}
 use Rattle.clight_source.specs.declared.tree.BinaryOperator.{BinaryOperator}
 use Rattle.clight_source.specs.declared.tree.BinaryOperator.TheVariants.{BitOr, BitXor, BitAnd, Equal, NotEqual, Less, Greater, LessOrEqual, GreaterOrEqual, ShiftLeft, ShiftRight, Add, Subtract, Multiply, Divide, Remainder}
-use Rattle.c_types.specs.Types.{Size, One, Two, Four}
-use Rattle.c_types.specs.Types as t
-use Rattle.c_types.specs.Conversions as c
-use Rattle.c_types.specs.Conversions.{count}
+use Rattle.c_types.specs.declared.integers.Size.TheVariants.{One, Two, Four}
+use Rattle.c_types.specs.declared.integers.Size.{Size}
+use Rattle.c_types.specs.declared.integers.IntegerType.{IntegerType}
+use Rattle.c_types.specs.Conversions.{count, promoted_integer, common_integer}
 use Rattle.clight_values.specs.declared.value.Value.{Value}
 use Rattle.clight_values.specs.declared.value.Value.TheVariants.{Integer}
-
--- an integer type
-pub record IntegerType : Type 0 where
-  pub size : Size
-  pub signed : Bool
 
 -- how many values of a type of this size aren't negative in a signed type
 abbrev pub half : Size → ℕ
@@ -40,19 +34,6 @@ from_magnitude T negative n = if negative then (count T.size - n) % count T.size
 -- 6.3.1.3: the value in four bytes, modulo what the new type can hold
 abbrev pub converted : IntegerType → IntegerType → ℕ → ℕ
 converted S T x = (if is_negative S x then x + (count Four - count S.size) else x) % count T.size
-
--- the integer type that a type is; what is none counts as `int`
-abbrev pub integer_of : t.CType → IntegerType
-integer_of (t.Integer size signed) = record { size = size; signed = signed }
-integer_of _ = record { size = Two; signed = true }
-
--- 6.3.1.1
-abbrev pub promoted : IntegerType → IntegerType
-promoted T = integer_of (c.promoted (t.Integer T.size T.signed))
-
--- 6.3.1.8
-abbrev pub common : IntegerType → IntegerType → IntegerType
-common S T = integer_of (c.common (t.Integer S.size S.signed) (t.Integer T.size T.signed))
 
 -- the operators on two values of one promoted type
 
@@ -128,10 +109,6 @@ calculated _ T x y = Err Outside
 
 -- an operator on values of two integer types: those of a shift are promoted one by one, those of others get the common type
 abbrev pub combined : BinaryOperator → IntegerType → IntegerType → ℕ → ℕ → Result Value FaultKind
-combined ShiftLeft S T x y = Ok (Integer (shifted_left (promoted S) (converted S (promoted S) x) y))
-combined ShiftRight S T x y = Ok (Integer (shifted_right (promoted S) (converted S (promoted S) x) y))
-combined operator S T x y = calculated operator (common S T) (converted S (common S T) x) (converted T (common S T) y)
-
--- 6.4.4.1: the type of an integer constant
-abbrev pub literal_type : Literal → IntegerType
-literal_type l = integer_of (c.literal_type l)
+combined ShiftLeft S T x y = Ok (Integer (shifted_left (promoted_integer S) (converted S (promoted_integer S) x) y))
+combined ShiftRight S T x y = Ok (Integer (shifted_right (promoted_integer S) (converted S (promoted_integer S) x) y))
+combined operator S T x y = calculated operator (common_integer S T) (converted S (common_integer S T) x) (converted T (common_integer S T) y)

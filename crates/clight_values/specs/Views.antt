@@ -3,29 +3,15 @@ use Rattle.std.specs.Prelude.{◌≡◌, List, map, option_map, Option, Some, No
 use Rattle.std.specs.Borrow.{Bor}
 use Rattle.cerco_base.specs.declared.events.FaultKind.{FaultKind}
 use Rattle.c_types.specs.Types as s
-use Rattle.clight_syntax.specs.declared.typed.StructType.{StructType}
-use Rattle.clight_syntax.specs.Code.TypedViews.{struct_type_of, variable_of}
+use Rattle.c_types.specs.declared.structs.StructType.{StructType}
+use Rattle.c_types.specs.Types.{struct_type_of}
+use Rattle.clight_syntax.specs.Code.TypedViews.{variable_of}
 use Rattle.clight_syntax.specs.TypedTrees.{Variable'}
 use Rattle.clight_syntax.specs.declared.typed.Variable.{Variable}
 use Rattle.clight_values.specs.Memory as m
 use Rattle.clight_values.specs.declared.memory.Cell.{Cell}
 use Rattle.clight_values.specs.declared.memory.Memory.{Memory}
 use Rattle.c_types.specs.declared.types.Ty.{Ty}
-use Rattle.clight_values.specs.declared.integer.Size.{Size}
-use Rattle.clight_values.specs.declared.integer.Size.TheVariants.{One, Two, Four}
-use Rattle.clight_values.specs.declared.integer.IntegerType.{IntegerType}
-use Rattle.clight_values.specs.Values as v
-
-abbrev pub size_held : Size → s.Size
-size_held One = s.One
-size_held Two = s.Two
-size_held Four = s.Four
-
-abbrev pub integer_held : IntegerType → v.IntegerType
-integer_held T = record { size = size_held T.size; signed = T.signed }
-
-abbrev pub integers_held : Option IntegerType → Option v.IntegerType
-integers_held T = option_map integer_held T
 
 abbrev pub structs_held : List StructType → List s.StructType
 structs_held structs = map struct_type_of structs

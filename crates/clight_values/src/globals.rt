@@ -6,15 +6,13 @@ ghost use Rattle.clight_values.specs.Memory as m;
 ghost use Rattle.clight_values.specs.Globals as g;
 ghost use Rattle.clight_values.specs.Views.{cells_held, kinds_held, memory_held, structs_held};
 
-use crate::integer::literal_type;
+use crate::integer::{converted, difference};
 use crate::lookup::item_at;
 use crate::memory::{Cell, Memory, initial, push_cells};
-use crate::operators::integer_type;
 use crate::value::{Block, Value};
+use c_types::{IntegerType, StructType, Ty};
 use cerco_base::NoMemory;
-use c_types::Ty;
 use clight_source::tree::{Initialiser, SignedNumber};
-use clight_syntax::typed::StructType;
 use std::alloc::Global;
 
 /// The bits of a number, perhaps with a `-` before it.
@@ -23,7 +21,11 @@ fn signed_bits(number: SignedNumber) -> u32
 {
     match number.minus {
         None => number.number.value,
-        Some(_) => literal_type(number.number).difference(0, number.number.value),
+        Some(_) => difference(
+            IntegerType::of_literal(number.number),
+            0,
+            number.number.value,
+        ),
     }
 }
 
@@ -31,11 +33,11 @@ fn signed_bits(number: SignedNumber) -> u32
 fn given(ty: &Ty, number: SignedNumber) -> Value
     ensures { result ≡ g.given (type_of ty.now) number }
 {
-    match integer_type(ty) {
+    match IntegerType::of(ty) {
         None => initial(ty),
         Some(target) => {
-            let source = literal_type(number.number);
-            Value::Integer(source.converted(target, signed_bits(number)))
+            let source = IntegerType::of_literal(number.number);
+            Value::Integer(converted(source, target, signed_bits(number)))
         }
     }
 }

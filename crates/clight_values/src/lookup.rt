@@ -1,5 +1,5 @@
 //! Items of lists by their numbers.
-ghost use Rattle.std.specs.Prelude.{◌≡◌, drop, take, slice_get, option_copied};
+ghost use Rattle.std.specs.Prelude.{◌≡◌, drop, slice_get, option_copied};
 
 /// The item with this number, counted from 0, if there is one.
 pub fn item_at<T>(items: &[T], number: usize) -> Option<&T>
@@ -16,16 +16,5 @@ pub fn items_from<T>(items: &[T], first: usize) -> &[T]
         &items[first..]
     } else {
         &items[..0]
-    }
-}
-
-/// The first so many items.
-pub fn first_items<T>(items: &[T], count: usize) -> &[T]
-    ensures { result.now ≡ take count items.now }
-{
-    if count < items.len() {
-        &items[..count]
-    } else {
-        items
     }
 }

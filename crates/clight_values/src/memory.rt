@@ -1,17 +1,17 @@
 //! The memory of a run.
 ghost use Rattle.std.specs.Prelude.{◌≡◌, IsTrue, ℕ, List, ◌<◌, ◌≤◌, ◌+◌, ◌^◌, ◌++◌, IfOk, OnOk, min, map, vec_len, length, [], Ok, ◌*◌, replicate, None, option_map};
-ghost use Rattle.c_types.specs.Types.{type_of, size_of};
-ghost use Rattle.clight_syntax.specs.Code.TypedViews.{member_of};
+ghost use Rattle.c_types.specs.Types.{type_of, member_of};
 ghost use Rattle.clight_values.specs.Memory as m;
-ghost use Rattle.clight_values.specs.Memory.{block_in, is_scalar, own_blocks};
-ghost use Rattle.clight_values.specs.Views.{integer_held, cell_held, cells_held, memory_held, structs_held, variables_held, kind_held, Becomes};
+ghost use Rattle.c_types.specs.Kinds.{is_scalar};
+ghost use Rattle.clight_values.specs.Memory.{block_in, own_blocks};
+ghost use Rattle.clight_values.specs.Views.{cell_held, cells_held, memory_held, structs_held, variables_held, kind_held, Becomes};
 
-use crate::integer::IntegerType;
+use crate::integer::{is_negative, magnitude};
 use crate::lookup::item_at;
 use crate::value::{Block, Place, Value};
+use c_types::{IntegerType, MemberType, StructType, Ty};
 use cerco_base::{FaultKind, NoMemory};
-use c_types::Ty;
-use clight_syntax::typed::{Home, MemberType, StructType, Variable};
+use clight_syntax::typed::{Home, Variable};
 use std::alloc::Global;
 
 /// A byte of a live block: the type of the scalar that begins there, if one does, and its value, if it is set.
@@ -35,33 +35,6 @@ impl<'a> Cell<'a> {
 pub struct Memory<'a> {
     pub cells: Vec<Cell<'a>>,
     pub blocks: Vec<Block>,
-}
-
-/// Whether two types are the same.
-pub fn same_type(left: &Ty, right: &Ty) -> bool
-    ensures { result ≡ m.same_type (type_of left.now) (type_of right.now) }
-{
-    match left {
-        Ty::Void => matches!(right, Ty::Void),
-        Ty::U8 => matches!(right, Ty::U8),
-        Ty::I8 => matches!(right, Ty::I8),
-        Ty::I16 => matches!(right, Ty::I16),
-        Ty::U16 => matches!(right, Ty::U16),
-        Ty::I32 => matches!(right, Ty::I32),
-        Ty::U32 => matches!(right, Ty::U32),
-        Ty::Pointer(left) => match right {
-            Ty::Pointer(right) => same_type(left, right),
-            _ => false,
-        },
-        Ty::Array(left, count) => match right {
-            Ty::Array(right, other) => *count == *other && same_type(left, right),
-            _ => false,
-        },
-        Ty::Struct(number) => match right {
-            Ty::Struct(other) => *number == *other,
-            _ => false,
-        },
-    }
 }
 
 impl<'a> Memory<'a> {
@@ -111,7 +84,7 @@ impl<'a> Memory<'a> {
         match self.cells[i].kind {
             None => Err(FaultKind::Outside),
             Some(kind) => {
-                if same_type(kind, ty) {
+                if kind.is_same(ty) {
                     Ok(i)
                 } else {
                     Err(FaultKind::Outside)
@@ -179,13 +152,13 @@ impl<'a> Memory<'a> {
         integer: IntegerType,
         by: Value,
     ) -> Result<Value, FaultKind>
-        ensures { (n : ℕ) → size ≡ min n (2 ^ 32) → result ≡ m.stepped (memory_held self.now) n back pointer (integer_held integer) by }
+        ensures { (n : ℕ) → size ≡ min n (2 ^ 32) → result ≡ m.stepped (memory_held self.now) n back pointer integer by }
     {
         let Value::Integer(n) = by else {
             return Err(FaultKind::Outside);
         };
-        let bytes = scaled(integer.magnitude(n), size);
-        self.moved(pointer, back != integer.is_negative(n), bytes)
+        let bytes = scaled(magnitude(integer, n), size);
+        self.moved(pointer, back != is_negative(integer, n), bytes)
     }
 
     /// Whether a value counts as true.
@@ -295,41 +268,6 @@ pub fn initial(ty: &Ty) -> Value
     match ty {
         Ty::Pointer(_) => Value::Null,
         _ => Value::Integer(0),
-    }
-}
-
-/// Whether a type is that of a scalar.
-pub fn is_scalar(ty: &Ty) -> bool
-    ensures { result ≡ is_scalar (type_of ty.now) }
-{
-    !matches!(ty, Ty::Void | Ty::Array(_, _) | Ty::Struct(_))
-}
-
-fn bytes_of(found: &StructType) -> u64
-    ensures value { result ≡ found.now.size }
-    ensures few { result < 2 ^ 32 }
-{
-    u64::from(found.size)
-}
-
-/// How many bytes a type has, up to 2 to the 32nd.
-pub fn size_of(structs: &[StructType], ty: &Ty) -> u64
-    ensures { result ≡ min (size_of (structs_held structs.now) (type_of ty.now)) (2 ^ 32) }
-{
-    match ty {
-        Ty::Void => 0,
-        Ty::U8 => 1,
-        Ty::I8 => 1,
-        Ty::I16 => 2,
-        Ty::U16 => 2,
-        Ty::I32 => 4,
-        Ty::U32 => 4,
-        Ty::Pointer(_) => 2,
-        Ty::Array(element, count) => scaled(u64::from(*count), size_of(structs, element)),
-        Ty::Struct(number) => match item_at(structs, *number as usize) {
-            None => 0,
-            Some(found) => bytes_of(found),
-        },
     }
 }
 

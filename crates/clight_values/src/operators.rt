@@ -1,47 +1,35 @@
 //! The operators on values.
 ghost use Rattle.std.specs.Prelude.{◌≡◌, ℕ, ◌^◌, min};
 ghost use Rattle.c_types.specs.Types.{type_of, size_of};
+ghost use Rattle.c_types.specs.Kinds.{integer_type, target_of};
 ghost use Rattle.clight_values.specs.Operators as o;
-ghost use Rattle.clight_values.specs.Views.{integer_held, integers_held, memory_held, structs_held};
+ghost use Rattle.clight_values.specs.Views.{memory_held, structs_held};
 
-use crate::integer::{IntegerType, Size, combined, truth};
-use crate::memory::{Memory, size_of as bytes_in};
+use crate::integer::{combined, complement, converted, difference, truth};
+use crate::memory::Memory;
 use crate::value::Value;
+use c_types::sizes::size_of as bytes_in;
+use c_types::{IntegerType, StructType, Ty};
 use cerco_base::FaultKind;
-use c_types::Ty;
 use clight_source::tree::BinaryOperator;
-use clight_syntax::typed::StructType;
 
-/// The integer type that a type is, if it is one.
-pub fn integer_type(ty: &Ty) -> Option<IntegerType>
-    ensures { integers_held result ≡ o.integer_type (type_of ty.now) }
+/// How many bytes a type has, counted up to 2 to the 32nd.
+pub fn counted_size(structs: &[StructType], ty: &Ty) -> u64
+    ensures { result ≡ min (size_of (structs_held structs.now) (type_of ty.now)) (2 ^ 32) }
 {
-    let (size, signed) = match ty {
-        Ty::U8 => (Size::One, false),
-        Ty::I8 => (Size::One, true),
-        Ty::U16 => (Size::Two, false),
-        Ty::I16 => (Size::Two, true),
-        Ty::U32 => (Size::Four, false),
-        Ty::I32 => (Size::Four, true),
-        _ => return None,
-    };
-    Some(IntegerType { size, signed })
+    match bytes_in(structs, ty) {
+        Some(bytes) => u64::from(bytes),
+        None => 0x1_0000_0000,
+    }
 }
 
-/// Whether a type is that of an array.
-pub fn is_array(ty: &Ty) -> bool
-    ensures { result ≡ o.is_array (type_of ty.now) }
-{
-    matches!(ty, Ty::Array(_, _))
-}
-
-/// How many bytes the target of a pointer or the element of an array has, up to 2 to the 32nd.
+// How many bytes the target of a pointer or the element of an array has, counted up to 2 to the 32nd.
 fn target_size(structs: &[StructType], ty: &Ty) -> u64
-    ensures { result ≡ min (size_of (structs_held structs.now) (o.target_type (type_of ty.now))) (2 ^ 32) }
+    ensures { result ≡ min (size_of (structs_held structs.now) (target_of (type_of ty.now))) (2 ^ 32) }
 {
     match ty {
-        Ty::Pointer(target) => bytes_in(structs, target),
-        Ty::Array(element, _) => bytes_in(structs, element),
+        Ty::Pointer(target) => counted_size(structs, target),
+        Ty::Array(element, _) => counted_size(structs, element),
         _ => 0,
     }
 }
@@ -58,10 +46,10 @@ fn as_pointer(value: Value) -> Result<Value, FaultKind>
 }
 
 fn converted_value(from: IntegerType, to: IntegerType, value: Value) -> Result<Value, FaultKind>
-    ensures { result ≡ o.converted_value (integer_held from) (integer_held to) value }
+    ensures { result ≡ o.converted_value from to value }
 {
     match value {
-        Value::Integer(n) => Ok(Value::Integer(from.converted(to, n))),
+        Value::Integer(n) => Ok(Value::Integer(converted(from, to, n))),
         _ => Err(FaultKind::Outside),
     }
 }
@@ -72,9 +60,9 @@ pub fn assigned_value(from: &Ty, to: &Ty, value: Value) -> Result<Value, FaultKi
 {
     match to {
         Ty::Pointer(_) => as_pointer(value),
-        _ => match integer_type(from) {
+        _ => match IntegerType::of(from) {
             None => Err(FaultKind::Outside),
-            Some(source) => match integer_type(to) {
+            Some(source) => match IntegerType::of(to) {
                 None => Err(FaultKind::Outside),
                 Some(target) => converted_value(source, target, value),
             },
@@ -107,7 +95,7 @@ fn of_integers(
     x: Value,
     y: Value,
 ) -> Result<Value, FaultKind>
-    ensures { result ≡ o.of_integers operator (integer_held left) (integer_held right) x y }
+    ensures { result ≡ o.of_integers operator left right x y }
 {
     match x {
         Value::Integer(m) => match y {
@@ -127,7 +115,7 @@ impl<'a> Memory<'a> {
         integer: IntegerType,
         by: Value,
     ) -> Result<Value, FaultKind>
-        ensures { (n : ℕ) → size ≡ min n (2 ^ 32) → result ≡ o.of_pointer_and_integer (memory_held self.now) operator n pointer (integer_held integer) by }
+        ensures { (n : ℕ) → size ≡ min n (2 ^ 32) → result ≡ o.of_pointer_and_integer (memory_held self.now) operator n pointer integer by }
     {
         match operator {
             BinaryOperator::Add => self.stepped(size, false, pointer, integer, by),
@@ -146,7 +134,7 @@ impl<'a> Memory<'a> {
         by: Value,
         pointer: Value,
     ) -> Result<Value, FaultKind>
-        ensures { (n : ℕ) → size ≡ min n (2 ^ 32) → result ≡ o.of_integer_and_pointer (memory_held self.now) operator n (integer_held integer) by pointer }
+        ensures { (n : ℕ) → size ≡ min n (2 ^ 32) → result ≡ o.of_integer_and_pointer (memory_held self.now) operator n integer by pointer }
     {
         match operator {
             BinaryOperator::Add => self.stepped(size, false, pointer, integer, by),
@@ -182,15 +170,15 @@ impl<'a> Memory<'a> {
     ) -> Result<Value, FaultKind>
         ensures { result ≡ o.operated (structs_held structs.now) (memory_held self.now) operator (type_of left.now) (type_of right.now) x y }
     {
-        match integer_type(left) {
-            Some(source) => match integer_type(right) {
+        match IntegerType::of(left) {
+            Some(source) => match IntegerType::of(right) {
                 Some(other) => of_integers(operator, source, other, x, y),
                 None => {
                     let size = target_size(structs, right);
                     self.of_integer_and_pointer(operator, size, source, x, y)
                 }
             },
-            None => match integer_type(right) {
+            None => match IntegerType::of(right) {
                 Some(other) => {
                     let size = target_size(structs, left);
                     self.of_pointer_and_integer(operator, size, x, other, y)
@@ -202,14 +190,14 @@ impl<'a> Memory<'a> {
 }
 
 fn negated(integer: Option<IntegerType>, value: Value) -> Result<Value, FaultKind>
-    ensures { result ≡ o.negated (integers_held integer) value }
+    ensures { result ≡ o.negated integer value }
 {
     match integer {
         None => Err(FaultKind::Outside),
         Some(ty) => match value {
             Value::Integer(n) => {
                 let promoted = ty.promoted();
-                Ok(Value::Integer(promoted.difference(0, ty.converted(promoted, n))))
+                Ok(Value::Integer(difference(promoted, 0, converted(ty, promoted, n))))
             }
             _ => Err(FaultKind::Outside),
         },
@@ -217,14 +205,14 @@ fn negated(integer: Option<IntegerType>, value: Value) -> Result<Value, FaultKin
 }
 
 fn complemented(integer: Option<IntegerType>, value: Value) -> Result<Value, FaultKind>
-    ensures { result ≡ o.complemented (integers_held integer) value }
+    ensures { result ≡ o.complemented integer value }
 {
     match integer {
         None => Err(FaultKind::Outside),
         Some(ty) => match value {
             Value::Integer(n) => {
                 let promoted = ty.promoted();
-                Ok(Value::Integer(promoted.complement(ty.converted(promoted, n))))
+                Ok(Value::Integer(complement(promoted, converted(ty, promoted, n))))
             }
             _ => Err(FaultKind::Outside),
         },
@@ -233,21 +221,21 @@ fn complemented(integer: Option<IntegerType>, value: Value) -> Result<Value, Fau
 
 /// The negation of a value of this type (6.5.3.3), or its fault.
 pub fn negated_answer(ty: &Ty, value: Result<Value, FaultKind>) -> Result<Value, FaultKind>
-    ensures { result ≡ o.then_value value (o.negated (o.integer_type (type_of ty.now))) }
+    ensures { result ≡ o.then_value value (o.negated (integer_type (type_of ty.now))) }
 {
     match value {
         Err(kind) => Err(kind),
-        Ok(value) => negated(integer_type(ty), value),
+        Ok(value) => negated(IntegerType::of(ty), value),
     }
 }
 
 /// The complement of a value of this type (6.5.3.3), or its fault.
 pub fn complemented_answer(ty: &Ty, value: Result<Value, FaultKind>) -> Result<Value, FaultKind>
-    ensures { result ≡ o.then_value value (o.complemented (o.integer_type (type_of ty.now))) }
+    ensures { result ≡ o.then_value value (o.complemented (integer_type (type_of ty.now))) }
 {
     match value {
         Err(kind) => Err(kind),
-        Ok(value) => complemented(integer_type(ty), value),
+        Ok(value) => complemented(IntegerType::of(ty), value),
     }
 }
 

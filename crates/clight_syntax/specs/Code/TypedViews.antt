@@ -1,7 +1,7 @@
 -- The typed program that the program holds, as definitions speak of it: without its pointers.
 use Rattle.std.specs.Prelude.{List, [], ◌∷◌, map, option_map}
 use Rattle.clight_syntax.specs.TypedTrees as p
-use Rattle.c_types.specs.Types.{type_of, StructType, Member}
+use Rattle.c_types.specs.Types.{type_of, struct_type_of}
 use Rattle.clight_source.specs.Code.Views.{declaration_of, global_of, header_of, prototype_of, struct_of}
 use Rattle.clight_syntax.specs.declared.typed.Expr.{Expr}
 use Rattle.clight_syntax.specs.declared.typed.Expr.TheVariants as e
@@ -23,8 +23,6 @@ use Rattle.clight_syntax.specs.declared.typed.Function.{Function}
 use Rattle.clight_syntax.specs.declared.typed.Item.{Item}
 use Rattle.clight_syntax.specs.declared.typed.Item.TheVariants as t
 use Rattle.clight_syntax.specs.declared.typed.Variable.{Variable}
-use Rattle.clight_syntax.specs.declared.typed.MemberType.{MemberType}
-use Rattle.clight_syntax.specs.declared.typed.StructType.{StructType as HeldStruct}
 use Rattle.clight_syntax.specs.declared.typed.TypedProgram.{TypedProgram}
 use Rattle.clight_syntax.specs.declared.typed.Labelled.{Labelled}
 use Rattle.cerco_base.specs.declared.events.Label.{Label}
@@ -132,12 +130,6 @@ item_of (t.Function number) = p.FunctionItem number
 
 abbrev pub variable_of : Variable → p.Variable'
 variable_of x = record { name = x.name; type = type_of x.ty; home = x.home; address = x.address }
-
-abbrev pub member_of : MemberType → Member
-member_of x = record { name = x.name; type = type_of x.ty; offset = x.offset }
-
-abbrev pub struct_type_of : HeldStruct → StructType
-struct_type_of x = record { tag = x.tag; members = map member_of x.members.items; size = x.size }
 
 abbrev pub program_of : {L : Type 0} → TypedProgram L → p.TypedProgram L
 program_of x = record {

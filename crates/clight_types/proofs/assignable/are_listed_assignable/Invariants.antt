@@ -1,7 +1,7 @@
 use Rattle.std.proofs.Common.{◌≡◌, map, drop}
 use Rattle.c_types.specs.Types.{type_of}
 use Rattle.clight_syntax.specs.Code.TypedViews.{expr_of, earlier_argument_of}
-use Rattle.clight_types.specs.Statements.{values_onto, are_assignable as are_assignable_lem}
+use Rattle.clight_types.specs.Assignable.{values_onto, are_assignable as are_assignable_lem}
 use Rattle.clight_types.proofs.assignable.are_listed_assignable.Given as goal
 
 abbrev pub invariant-loop-x : goal.invariant-loop-x

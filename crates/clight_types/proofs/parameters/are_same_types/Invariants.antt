@@ -1,6 +1,6 @@
 use Rattle.std.proofs.Common.{◌≡◌, map, drop}
 use Rattle.c_types.specs.Types.{type_of}
-use Rattle.clight_types.specs.Functions.{types_eq}
+use Rattle.clight_types.specs.Declarations.{types_eq}
 use Rattle.clight_types.proofs.parameters.are_same_types.Given as goal
 
 abbrev pub invariant-loop-one : goal.invariant-loop-one

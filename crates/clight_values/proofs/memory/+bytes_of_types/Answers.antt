@@ -1,6 +1,5 @@
 use Rattle.std.proofs.Common.{◌≡◌, ◌++◌, ◌<◌, map, ap, sym, subst, ◌∙◌, arith}
-use Rattle.c_types.specs.Types.{type_of}
-use Rattle.clight_syntax.specs.Code.TypedViews.{member_of}
+use Rattle.c_types.specs.Types.{type_of, member_of}
 use Rattle.clight_values.specs.Memory.{kinds_by, kinds_of_members, nested_kinds, unset}
 use Rattle.clight_values.specs.Views.{cells_held, structs_held}
 use Rattle.std.specs.Prelude.{OnOk}

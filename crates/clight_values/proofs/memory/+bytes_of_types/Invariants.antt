@@ -1,6 +1,5 @@
 use Rattle.std.proofs.Common.{◌≡◌, ◌++◌, map, drop}
-use Rattle.c_types.specs.Types.{type_of}
-use Rattle.clight_syntax.specs.Code.TypedViews.{member_of}
+use Rattle.c_types.specs.Types.{type_of, member_of}
 use Rattle.clight_values.specs.Memory.{repeated, kinds_by, kinds_of_members, nested_kinds, unset}
 use Rattle.clight_values.specs.Views.{cells_held, structs_held}
 use Rattle.clight_values.proofs.Nesting.{type_steps, members_steps, nested_steps}

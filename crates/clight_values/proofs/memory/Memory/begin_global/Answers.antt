@@ -1,8 +1,7 @@
 use Rattle.std.proofs.Common.{◌≡◌, ℕ, ◌++◌, ◌∷◌, [], arith, map, length, sym, ap, ◌∙◌}
 use Rattle.std.proofs.lemmas.List.{length-map}
-use Rattle.c_types.specs.Types.{type_of}
+use Rattle.c_types.specs.Types.{type_of, struct_type_of}
 use Rattle.clight_source.specs.Code.Views.{initialiser_of}
-use Rattle.clight_syntax.specs.Code.TypedViews.{struct_type_of}
 use Rattle.clight_values.specs.Memory as m
 use Rattle.clight_values.specs.Globals.{filled, numbers_of}
 use Rattle.clight_values.specs.Views.{cell_held, cells_held, structs_held, kinds_held}
