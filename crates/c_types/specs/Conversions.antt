@@ -1,9 +1,6 @@
--- The values of integer types, the integer promotions, the common type of two operands, and the type of an integer constant (ISO/IEC
--- 9899:1999, 6.2.5, 6.3.1.1, 6.3.1.8 and 6.4.4.1), over the size and the signedness of a type.
+-- The values of integer types, the integer promotions, and the common type of two operands (ISO/IEC 9899:1999,
+-- 6.2.5, 6.3.1.1 and 6.3.1.8), over the size and the signedness of a type.
 use Rattle.std.specs.Prelude.{ℕ, ◌/◌, ◌^◌, Bool, true, false, ◌&&◌, List, [], ◌∷◌, nat_lt, if◌then◌else◌}
-use Rattle.clight_source.specs.declared.symbol.Literal.{Literal}
-use Rattle.clight_source.specs.declared.symbol.Radix.{Radix}
-use Rattle.clight_source.specs.declared.symbol.Radix.TheVariants.{Decimal}
 use Rattle.c_types.specs.declared.integers.IntegerType.{IntegerType}
 use Rattle.c_types.specs.declared.integers.Size.{Size}
 use Rattle.c_types.specs.declared.integers.Size.TheVariants.{One, Two, Four}
@@ -64,18 +61,6 @@ wider l r = int
 abbrev pub common : CType → CType → CType
 common l r = wider (promoted l) (promoted r)
 
--- ---- constants
-
--- the types that a constant may have, by how it is written, and whether it has a `u`
-abbrev pub candidates : Radix → Bool → List CType
-candidates radix true = unsigned_int ∷ unsigned_long ∷ []
-candidates Decimal false = int ∷ long ∷ []
-candidates radix false = int ∷ unsigned_int ∷ long ∷ unsigned_long ∷ []
-
--- 6.4.4.1: the first type of its list that has its value
-abbrev pub literal_type : Literal → CType
-literal_type x = first_with_value (candidates x.radix x.unsigned) x.value
-
 -- ---- the same by sizes and signedness
 
 -- the integer type that a type is; what is none counts as `int`
@@ -88,6 +73,3 @@ promoted_integer x = integer_of (promoted (type_for x))
 
 abbrev pub common_integer : IntegerType → IntegerType → IntegerType
 common_integer x y = integer_of (common (type_for x) (type_for y))
-
-abbrev pub literal_integer : Literal → IntegerType
-literal_integer x = integer_of (literal_type x)

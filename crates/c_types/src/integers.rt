@@ -1,4 +1,4 @@
-//! The integer types, by size and signedness, and the conversions between them (ISO/IEC 9899:1999, 6.2.5, 6.3.1 and 6.4.4.1).
+//! The integer types, by size and signedness, and the conversions between them (ISO/IEC 9899:1999, 6.2.5 and 6.3.1).
 ghost use Rattle.std.specs.Prelude.{◌≡◌, Some, None, if◌then◌else◌};
 ghost use Rattle.std.specs.Option.{option_map};
 ghost use Rattle.c_types.specs.Types.{type_of};
@@ -6,7 +6,6 @@ ghost use Rattle.c_types.specs.Kinds.{is_integer, integer_type, type_for};
 ghost use Rattle.c_types.specs.Conversions as c;
 
 use crate::types::Ty;
-use clight_source::{Literal, Radix};
 
 /// The size of an integer type.
 #[derive(Clone, Copy)]
@@ -100,24 +99,5 @@ impl IntegerType {
                 signed: left.signed && right.signed,
             },
         }
-    }
-
-    /// The type of an integer constant (6.4.4.1).
-    pub fn of_literal(literal: Literal) -> IntegerType
-        ensures seen { type_for result ≡ c.literal_type literal }
-        ensures value { result ≡ c.literal_integer literal }
-    {
-        let (size, signed) = match (literal.unsigned, literal.radix) {
-            (true, _) if literal.value < 0x1_0000 => (Size::Two, false),
-            (true, _) => (Size::Four, false),
-            (false, _) if literal.value < 0x8000 => (Size::Two, true),
-            (false, Radix::Octal | Radix::Hexadecimal) if literal.value < 0x1_0000 => (
-                Size::Two,
-                false,
-            ),
-            (false, _) if literal.value < 0x8000_0000 => (Size::Four, true),
-            (false, _) => (Size::Four, false),
-        };
-        IntegerType { size, signed }
     }
 }

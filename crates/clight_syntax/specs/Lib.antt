@@ -1,3 +1,4 @@
+pub mod LiteralTypes
 pub mod Annotations
 pub mod Labelling
 pub mod TypedSpans

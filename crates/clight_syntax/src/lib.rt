@@ -2,6 +2,7 @@
 //! places of a source at which annotations stand. The source's own tree is that of `clight_source`, types are those of `c_types`.
 #![tactic(auto)]
 
+pub mod literals;
 pub mod points;
 pub mod typed;
 pub mod variables;
@@ -10,5 +11,6 @@ pub use c_types::{MemberType, StructType, Ty};
 pub use clight_source::{
     Expr, Function, Literal, Names, Program, Radix, Span, Stmt, Symbol, Terminal, depth,
 };
+pub use literals::literal_type;
 pub use points::{Piece, Point, Points};
 pub use typed::{Cond, Labelled, Typed, TypedProgram};

@@ -11,7 +11,8 @@ use Rattle.clight_source.specs.declared.tree.Name.{Name}
 use Rattle.clight_source.specs.declared.tree.Specifiers.{Specifiers}
 use Rattle.c_types.specs.Types.{CType, Pointer, Member, StructType, type_eq}
 use Rattle.clight_syntax.specs.TypedTrees.{Expr, Variable, Number, Parenthesis, Binary, Prefix, Cast, Index, Select, type_at, Cond, Truth, InParentheses, Not, Both, Either}
-use Rattle.c_types.specs.Conversions.{promoted, common, int, unsigned_char, literal_type}
+use Rattle.c_types.specs.Conversions.{promoted, common, int, unsigned_char}
+use Rattle.clight_syntax.specs.LiteralTypes.{literal_type}
 use Rattle.c_types.specs.Kinds.{is_integer, is_pointer, is_scalar, is_array, is_four_bytes, target_of, value_type}
 use Rattle.clight_types.specs.Operands.{is_value, is_place, is_zero, Operand, operand, steps_along}
 use Rattle.clight_types.specs.Scopes.{Scope, Object, meaning_of, member_of}

@@ -17,7 +17,8 @@ use Rattle.clight_source.specs.declared.tree.Specifiers.TheVariants as w
 use Rattle.clight_source.specs.Trees as s
 use Rattle.c_types.specs.Types.{CType, Void, Pointer, Member, StructType}
 use Rattle.clight_syntax.specs.TypedTrees.{Expr, Variable, Number, Parenthesis, Binary, Prefix, Cast, Index, Select, type_at, Cond, Truth, InParentheses, Not, Both, Either}
-use Rattle.c_types.specs.Conversions.{promoted, common, int, literal_type}
+use Rattle.c_types.specs.Conversions.{promoted, common, int}
+use Rattle.clight_syntax.specs.LiteralTypes.{literal_type}
 use Rattle.c_types.specs.Kinds.{is_integer, is_pointer, is_scalar, is_array, is_four_bytes, target_of}
 use Rattle.clight_types.specs.Operands.{is_value, is_place, Operand, operand, steps_along}
 use Rattle.clight_types.specs.Scopes.{Scope, Meaning, Object, Code, meaning_of, member_of}

@@ -10,11 +10,11 @@ ghost use Rattle.clight_types.specs.Outcomes.{Gives};
 ghost use Rattle.clight_types.specs.HeldJudged.{judged_of};
 
 use crate::operands::{carried, has_value, is_scalar_value};
-use c_types::{IntegerType, Size};
+use c_types::Size;
 use cerco_base::{Fault, Reason, TypeKind};
 use clight_source::tree::{self, Specifiers};
 use clight_syntax::typed::Expr;
-use clight_syntax::{Cond, Literal, Span};
+use clight_syntax::{Cond, Literal, Span, literal_type};
 use std::alloc::Global;
 
 /// What an expression is by itself.
@@ -134,7 +134,7 @@ pub fn place_in(source: &tree::Expr, judged: Judged) -> Result<Option<Expr>, Fau
 pub fn number(literal: Literal, span: Span) -> Result<Judged, Fault>
     ensures { Gives judged_of result (judged_number literal span) }
 {
-    let integer = IntegerType::of_literal(literal);
+    let integer = literal_type(literal);
     match integer.size {
         Size::Four => Err(refused(span.from, TypeKind::Long)),
         _ => Ok(Judged::Typed(Expr::Number(integer.as_type(), literal, span))),

@@ -8,7 +8,7 @@ use Rattle.clight_source.specs.Trees.{Initialiser, NoInitialiser, Single, Listed
 use Rattle.c_types.specs.Types.{CType, Integer}
 use Rattle.clight_values.specs.declared.value.Value as w
 use Rattle.clight_values.specs.declared.value.Value.TheVariants as v
-use Rattle.c_types.specs.Conversions.{literal_integer}
+use Rattle.clight_syntax.specs.LiteralTypes.{literal_integer}
 use Rattle.clight_values.specs.Values.{converted, difference}
 use Rattle.clight_values.specs.Memory.{Cell, Kinds, initial, left}
 

@@ -13,6 +13,7 @@ use crate::value::{Block, Value};
 use c_types::{IntegerType, StructType, Ty};
 use cerco_base::NoMemory;
 use clight_source::tree::{Initialiser, SignedNumber};
+use clight_syntax::literal_type;
 use std::alloc::Global;
 
 /// The bits of a number, perhaps with a `-` before it.
@@ -22,7 +23,7 @@ fn signed_bits(number: SignedNumber) -> u32
     match number.minus {
         None => number.number.value,
         Some(_) => difference(
-            IntegerType::of_literal(number.number),
+            literal_type(number.number),
             0,
             number.number.value,
         ),
@@ -36,7 +37,7 @@ fn given(ty: &Ty, number: SignedNumber) -> Value
     match IntegerType::of(ty) {
         None => initial(ty),
         Some(target) => {
-            let source = IntegerType::of_literal(number.number);
+            let source = literal_type(number.number);
             Value::Integer(converted(source, target, signed_bits(number)))
         }
     }
