@@ -11,6 +11,39 @@ trap 'rm -rf "$work"' EXIT
 # The seconds between two times in seconds.
 seconds() { awk -v from="$1" -v to="$2" 'BEGIN { printf "%.3f", to - from }'; }
 
+# The cycles a second of so many cycles in so many seconds.
+rate() { awk -v cycles="$1" -v seconds="$2" 'BEGIN { printf "%.0f", cycles / seconds }'; }
+
+# The seconds that s51 takes for the code of a HEX file whose last two bytes are a jump to itself, with its start; a dash where it isn't
+# installed.
+s51_seconds() {
+  local last from to
+  if ! command -v s51 >/dev/null; then
+    echo -
+    return
+  fi
+  last=$(printf '%x' $(($(code_of "$1" | wc -c) - 2)))
+  from=$(date +%s.%N)
+  # s51 reads the next command when its run has stopped, and takes a closed input for a stop.
+  timeout 600 s51 -t 8052 "$1" < <(printf 'break 0x%s\nrun\nquit\n' "$last"; sleep 60) >/dev/null 2>&1 || true
+  to=$(date +%s.%N)
+  seconds "$from" "$to"
+}
+
+# Prints a line for a loop: its cycles, the seconds that cerco and s51 took, the cycles a second of each, and how many times those of s51
+# cerco makes.
+print_speeds() {
+  local loop=$1 cycles=$2 ours=$3 theirs=$4 their_rate=- times=-
+  if [ "$theirs" != - ]; then
+    their_rate=$(rate "$cycles" "$theirs")
+    times=$(awk -v ours="$ours" -v theirs="$theirs" 'BEGIN { printf "%.0f", theirs / ours }')
+  fi
+  printf '%-12s %12s %9s %12s %9s %12s %6s\n' "$loop" "$cycles" "$ours" "$(rate "$cycles" "$ours")" "$theirs" "$their_rate" "$times"
+}
+
+# Prints the head of the lines of `print_speeds`.
+print_speeds_head() { printf '%-12s %12s %9s %12s %9s %12s %6s\n' loop cycles seconds cycles/s s51 cycles/s times; }
+
 # Writes the data bytes of an Intel HEX file whose records are in order.
 code_of() {
   python3 - "$1" <<'PY'

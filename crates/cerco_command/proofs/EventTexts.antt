@@ -1,13 +1,10 @@
 -- The lines of events, by the pieces in which they are put.
-use Rattle.std.proofs.Common.{◌≡◌, ℕ, List, ◌++◌, Option, Some, None, codes, decimal, refl, ap, ◌∙◌, append-nil}
+use Rattle.std.proofs.Common.{◌≡◌, ℕ, List, ◌++◌, Option, Some, None, codes, refl, ap, ◌∙◌, append-nil}
 use Rattle.std.proofs.lemmas.List.Concat.{flat_map-append}
 use Rattle.cerco_base.specs.declared.events.Port.{Port}
 use Rattle.sim51.specs.declared.events.Events.{Events}
 use Rattle.sim51.specs.Runs.{events_of, label_events, read_events, write_events}
-use Rattle.cerco_command.specs.Messages.{line_about, port_lines, event_line, event_lines}
-
-pub label_text : (cycles n : ℕ) → event_lines cycles (label_events (Some (record { 0 = n }))) ≡ (codes "L" ++ decimal n) ++ line_about (codes " ") (decimal cycles)
-label_text cycles n = append-nil _
+use Rattle.cerco_command.specs.Messages.{port_lines, event_line, event_lines}
 
 read_text : (cycles : ℕ) (read : Option (Port × ℕ)) → event_lines cycles (read_events read) ≡ port_lines (codes "R") read cycles
 read_text cycles None = refl

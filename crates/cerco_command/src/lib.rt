@@ -10,6 +10,7 @@ ghost use Rattle.cerco_command.specs.Once.{MeansOnce};
 
 pub mod building;
 pub mod inputs;
+pub mod line;
 pub mod listing;
 pub mod plain_program;
 pub mod port_object;

@@ -6,6 +6,7 @@ ghost use Rattle.sim51.specs.Runs.{events_of, label_events};
 ghost use Rattle.cerco_command.specs.Messages.{line_about, reserved_line, port_lines, event_lines};
 ghost use Rattle.cerco_command.specs.Stages.{PutsFront};
 
+use crate::line::Line;
 use cerco_base::{IoFault, Label, Port, Sink, SoundSink, hex_word, put_all};
 use itoa::Buffer;
 use sim51::Events;
@@ -46,25 +47,36 @@ fn put_label<O: Sink>(label: Option<Label>, cycles: u64, out: &mut O) -> Result<
     let Some(Label(number)) = label else {
         return Ok(());
     };
-    put_number("L", number as u64, out)?;
-    put_count(" ", cycles, out)
+    let mut line = Line::new();
+    line.push(b'L');
+    line.push_number(number as u64);
+    line.push(b' ');
+    line.push_number(cycles);
+    line.push(b'\n');
+    put_all(out, line.as_slice())
 }
 
 // Puts the line of a byte at a port, if there is one.
 fn put_port<O: Sink>(
-    letter: &str,
+    letter: u8,
     at: Option<(Port, u8)>,
     cycles: u64,
     out: &mut O,
 ) -> Result<(), IoFault>
-    ensures { PutsText (O.state out.old) (O.state out.new) (port_lines letter.now at cycles) result }
+    ensures { PutsText (O.state out.old) (O.state out.new) (port_lines (letter ∷ []) at cycles) result }
 {
     let Some((port, byte)) = at else {
         return Ok(());
     };
-    put_number(letter, port.number() as u64, out)?;
-    put_number(" ", byte as u64, out)?;
-    put_count(" ", cycles, out)
+    let mut line = Line::new();
+    line.push(letter);
+    line.push_number(port.number() as u64);
+    line.push(b' ');
+    line.push_number(byte as u64);
+    line.push(b' ');
+    line.push_number(cycles);
+    line.push(b'\n');
+    put_all(out, line.as_slice())
 }
 
 /// Puts the lines of the events that a step makes, with the machine cycles before it.
@@ -72,8 +84,8 @@ pub fn put_events<O: Sink>(events: Events, cycles: u64, out: &mut O) -> Result<(
     ensures { PutsText (O.state out.old) (O.state out.new) (event_lines cycles (events_of events)) result }
 {
     put_label(events.label, cycles, out)?;
-    put_port("R", events.read, cycles, out)?;
-    put_port("P", events.write, cycles, out)
+    put_port(b'R', events.read, cycles, out)?;
+    put_port(b'P', events.write, cycles, out)
 }
 
 /// Puts a text that is pending, once it is long, and gives what is pending then.

@@ -1,5 +1,5 @@
 -- Which steps show nothing.
-use Rattle.std.proofs.Common.{◌≡◌, ℕ, zero, suc, ◌+◌, ◌<◌, ◌≤◌, List, Option, Some, None, Bool, true, false, cond, not, ◌||◌, is_some, ◌%◌, refl, sym, ap, ◌∙◌, arith, lit≤}
+use Rattle.std.proofs.Common.{◌≡◌, ℕ, List, Bool, true, false, not, ◌||◌, is_some, ◌%◌, refl}
 use Rattle.mcs51_isa.specs.declared.instr.Instr.{Instr}
 use Rattle.mcs51_isa.specs.declared.instr.Instr.TheVariants as Kind
 use Rattle.mcs51_isa.specs.declared.instr.LongJump.TheVariants.{Ljmp, Lcall}
@@ -8,7 +8,7 @@ use Rattle.mcs51_isa.specs.declared.instr.StackOp.TheVariants.{Push, Pop}
 use Rattle.mcs51_isa.specs.declared.instr.BitTest.TheVariants.{Jbc, Jb, Jnb}
 use Rattle.mcs51_isa.specs.Operands.{relative_target}
 use Rattle.sim51.specs.declared.location.Location.{Location}
-use Rattle.sim51.specs.declared.location.Location.TheVariants.{Latch, Acc}
+use Rattle.sim51.specs.declared.location.Location.TheVariants.{Latch}
 use Rattle.sim51.specs.State.{Core}
 use Rattle.sim51.specs.Locations.{location_of, byte_of_bit, bit_of, held, read_event, write_event, raised}
 use Rattle.sim51.specs.Effect.{Effect, effect, clears_bit}

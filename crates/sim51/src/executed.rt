@@ -13,6 +13,7 @@ pub(crate) struct Executed {
 
 impl Executed {
     /// The machine goes on at this address. No port was read or written.
+    #[inline(always)]
     pub(crate) fn at(pc: u16) -> Executed
         ensures { result ≡ record { pc = pc; read = None; write = None } }
     {
@@ -20,6 +21,7 @@ impl Executed {
     }
 
     /// The machine goes on at this address, and maybe read this port. None was written.
+    #[inline(always)]
     pub(crate) fn reading(pc: u16, read: Option<(Port, u8)>) -> Executed
         ensures { result ≡ record { pc = pc; read = read; write = None } }
     {

@@ -73,6 +73,7 @@ impl<'a> Machine<'a> {
     }
 
     /// One step. It takes no memory.
+    #[inline(always)]
     pub fn step(&mut self) -> Step
         requires { self.old.state.cycles < 2 ^ 62 }
         ensures code { self.new.code ≡ self.old.code }

@@ -10,6 +10,7 @@ impl<'a> Processor<'a> {
     ghost use Rattle.sim51.specs.Effect.{effect};
     ghost use Rattle.sim51.specs.Code.Slots.{effect_of};
 
+    #[inline(always)]
     pub(super) fn rotate_acc(&mut self, op: Rotate, next: u16) -> Executed
         ensures { effect_of self.new result ≡ effect [] (Instr.RotateAcc op) next self.old }
     {
@@ -17,6 +18,7 @@ impl<'a> Processor<'a> {
         Executed::at(next)
     }
 
+    #[inline(always)]
     pub(super) fn step_acc(&mut self, op: ByOne, next: u16) -> Executed
         ensures { effect_of self.new result ≡ effect [] (Instr.StepAcc op) next self.old }
     {
@@ -24,6 +26,7 @@ impl<'a> Processor<'a> {
         Executed::at(next)
     }
 
+    #[inline(always)]
     pub(super) fn arith_immediate(&mut self, op: SumOp, value: u8, next: u16) -> Executed
         ensures { effect_of self.new result ≡ effect [] (Instr.ArithImmediate op value) next self.old }
     {
@@ -31,6 +34,7 @@ impl<'a> Processor<'a> {
         Executed::at(next)
     }
 
+    #[inline(always)]
     pub(super) fn logic_immediate(&mut self, op: Logic, value: u8, next: u16) -> Executed
         ensures { effect_of self.new result ≡ effect [] (Instr.LogicImmediate op value) next self.old }
     {
@@ -38,6 +42,7 @@ impl<'a> Processor<'a> {
         Executed::at(next)
     }
 
+    #[inline(always)]
     pub(super) fn mov_acc_immediate(&mut self, value: u8, next: u16) -> Executed
         ensures { effect_of self.new result ≡ effect [] (Instr.MovAccImmediate value) next self.old }
     {
@@ -45,6 +50,7 @@ impl<'a> Processor<'a> {
         Executed::at(next)
     }
 
+    #[inline(always)]
     pub(super) fn whole_acc(&mut self, op: Whole, next: u16) -> Executed
         ensures { effect_of self.new result ≡ effect [] (Instr.WholeAcc op) next self.old }
     {
@@ -52,6 +58,7 @@ impl<'a> Processor<'a> {
         Executed::at(next)
     }
 
+    #[inline(always)]
     pub(super) fn adjust_acc(&mut self, op: Adjustment, next: u16) -> Executed
         ensures { effect_of self.new result ≡ effect [] (Instr.Adjust op) next self.old }
     {
@@ -59,6 +66,7 @@ impl<'a> Processor<'a> {
         Executed::at(next)
     }
 
+    #[inline(always)]
     pub(super) fn multiplier(&mut self, op: MulDiv, next: u16) -> Executed
         ensures { effect_of self.new result ≡ effect [] (Instr.Multiplier op) next self.old }
     {
@@ -66,6 +74,7 @@ impl<'a> Processor<'a> {
         Executed::at(next)
     }
 
+    #[inline(always)]
     pub(super) fn change_carry(&mut self, op: BitChange, next: u16) -> Executed
         ensures { effect_of self.new result ≡ effect [] (Instr.ChangeCarry op) next self.old }
     {
@@ -73,6 +82,7 @@ impl<'a> Processor<'a> {
         Executed::at(next)
     }
 
+    #[inline(always)]
     pub(super) fn mov_dptr(&mut self, word: u16, next: u16) -> Executed
         ensures { effect_of self.new result ≡ effect [] (Instr.MovDptr word) next self.old }
     {
@@ -80,6 +90,7 @@ impl<'a> Processor<'a> {
         Executed::at(next)
     }
 
+    #[inline(always)]
     pub(super) fn inc_dptr(&mut self, next: u16) -> Executed
         ensures { effect_of self.new result ≡ effect [] Instr.IncDptr next self.old }
     {

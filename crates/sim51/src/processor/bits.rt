@@ -14,6 +14,7 @@ impl<'a> Processor<'a> {
     ghost use Rattle.sim51.specs.Code.Slots.{effect_of};
     ghost use Rattle.sim51.specs.Code.Quiets.{leaves_bit, is_silent_planned};
 
+    #[inline(always)]
     pub(super) fn carry_logic(&mut self, op: CarryOp, bit: u8, next: u16) -> Executed
         ensures { effect_of self.new result ≡ effect [] (Instr.CarryLogic op bit) next self.old }
     {
@@ -23,6 +24,7 @@ impl<'a> Processor<'a> {
         Executed::reading(next, read)
     }
 
+    #[inline(always)]
     pub(super) fn mov_carry_bit(&mut self, bit: u8, next: u16) -> Executed
         ensures { effect_of self.new result ≡ effect [] (Instr.MovCarryBit bit) next self.old }
     {
@@ -31,6 +33,7 @@ impl<'a> Processor<'a> {
         Executed::reading(next, read)
     }
 
+    #[inline(always)]
     pub(super) fn mov_bit_carry(&mut self, bit: u8, next: u16) -> Executed
         ensures { effect_of self.new result ≡ effect [] (Instr.MovBitCarry bit) next self.old }
     {
@@ -39,6 +42,7 @@ impl<'a> Processor<'a> {
         self.write_and_go(location, byte, next)
     }
 
+    #[inline(always)]
     pub(super) fn change_bit(&mut self, op: BitChange, bit: u8, next: u16) -> Executed
         ensures { effect_of self.new result ≡ effect [] (Instr.ChangeBit op bit) next self.old }
     {
@@ -48,6 +52,7 @@ impl<'a> Processor<'a> {
         self.write_and_go(location, with_bit(byte, bit % 8, on), next)
     }
 
+    #[inline(always)]
     fn branch_and_clear(&mut self, bit: u8, target: u16, next: u16) -> Executed
         ensures { effect_of self.new result ≡ branches_on_bit BitTest.Jbc bit target next self.old }
     {
@@ -61,6 +66,7 @@ impl<'a> Processor<'a> {
     }
 
     /// Goes to one address where the bit is 1 and to another where it is 0.
+    #[inline(always)]
     fn branch_on_bit(&mut self, bit: u8, if_set: u16, if_clear: u16) -> Executed
         ensures { effect_of self.new result ≡ branches_on_bit BitTest.Jb bit if_set if_clear self.old }
     {
@@ -77,6 +83,7 @@ impl<'a> Processor<'a> {
     }
 
     /// JBC, JB and JNB with their target.
+    #[inline(always)]
     pub(super) fn branch_bit(&mut self, op: BitTest, bit: u8, target: u16, next: u16) -> Executed
         ensures { effect_of self.new result ≡ branches_on_bit op bit target next self.old }
     {

@@ -13,6 +13,7 @@ impl<'a> Processor<'a> {
     ghost use Rattle.sim51.specs.Code.Slots.{effect_of};
 
     /// Writes a byte at a location and goes on.
+    #[inline(always)]
     pub(super) fn write_and_go(&mut self, location: Location, byte: u8, pc: u16) -> Executed
         ensures { effect_of self.new result ≡ writes location byte pc self.old }
     {
@@ -24,6 +25,7 @@ impl<'a> Processor<'a> {
         }
     }
 
+    #[inline(always)]
     pub(super) fn step_direct(&mut self, op: ByOne, direct: u8, next: u16) -> Executed
         ensures { effect_of self.new result ≡ effect [] (Instr.StepDirect op direct) next self.old }
     {
@@ -32,6 +34,7 @@ impl<'a> Processor<'a> {
         self.write_and_go(location, byte, next)
     }
 
+    #[inline(always)]
     pub(super) fn arith_direct(&mut self, op: SumOp, direct: u8, next: u16) -> Executed
         ensures { effect_of self.new result ≡ effect [] (Instr.ArithDirect op direct) next self.old }
     {
@@ -40,6 +43,7 @@ impl<'a> Processor<'a> {
         Executed::reading(next, read)
     }
 
+    #[inline(always)]
     pub(super) fn logic_direct_acc(&mut self, op: Logic, direct: u8, next: u16) -> Executed
         ensures { effect_of self.new result ≡ effect [] (Instr.LogicDirectAcc op direct) next self.old }
     {
@@ -48,6 +52,7 @@ impl<'a> Processor<'a> {
         self.write_and_go(location, byte, next)
     }
 
+    #[inline(always)]
     pub(super) fn logic_direct_immediate(
         &mut self,
         op: Logic,
@@ -62,6 +67,7 @@ impl<'a> Processor<'a> {
         self.write_and_go(location, byte, next)
     }
 
+    #[inline(always)]
     pub(super) fn logic_direct(&mut self, op: Logic, direct: u8, next: u16) -> Executed
         ensures { effect_of self.new result ≡ effect [] (Instr.LogicDirect op direct) next self.old }
     {
@@ -71,12 +77,14 @@ impl<'a> Processor<'a> {
         Executed::reading(next, read)
     }
 
+    #[inline(always)]
     pub(super) fn mov_direct_immediate(&mut self, direct: u8, value: u8, next: u16) -> Executed
         ensures { effect_of self.new result ≡ effect [] (Instr.MovDirectImmediate direct value) next self.old }
     {
         self.write_and_go(location_of(direct), value, next)
     }
 
+    #[inline(always)]
     pub(super) fn mov_direct_direct(&mut self, source: u8, target: u8, next: u16) -> Executed
         ensures { effect_of self.new result ≡ effect [] (Instr.MovDirectDirect source target) next self.old }
     {
@@ -89,6 +97,7 @@ impl<'a> Processor<'a> {
         }
     }
 
+    #[inline(always)]
     pub(super) fn mov_direct_indirect(&mut self, direct: u8, ind: Ind, next: u16) -> Executed
         ensures { effect_of self.new result ≡ effect [] (Instr.MovDirectIndirect direct ind) next self.old }
     {
@@ -96,6 +105,7 @@ impl<'a> Processor<'a> {
         self.write_and_go(location_of(direct), byte, next)
     }
 
+    #[inline(always)]
     pub(super) fn mov_direct_register(&mut self, direct: u8, reg: Reg, next: u16) -> Executed
         ensures { effect_of self.new result ≡ effect [] (Instr.MovDirectRegister direct reg) next self.old }
     {
@@ -103,6 +113,7 @@ impl<'a> Processor<'a> {
         self.write_and_go(location_of(direct), byte, next)
     }
 
+    #[inline(always)]
     pub(super) fn load_direct(&mut self, direct: u8, next: u16) -> Executed
         ensures { effect_of self.new result ≡ effect [] (Instr.MovDirect Move.IntoAcc direct) next self.old }
     {
@@ -111,6 +122,7 @@ impl<'a> Processor<'a> {
         Executed::reading(next, read)
     }
 
+    #[inline(always)]
     pub(super) fn store_direct(&mut self, direct: u8, next: u16) -> Executed
         ensures { effect_of self.new result ≡ effect [] (Instr.MovDirect Move.FromAcc direct) next self.old }
     {
@@ -118,6 +130,7 @@ impl<'a> Processor<'a> {
         self.write_and_go(location_of(direct), acc, next)
     }
 
+    #[inline(always)]
     fn exchange(&mut self, location: Location, next: u16) -> Executed
         ensures { effect_of self.new result ≡ record { core = exchanged self.old location; pc = next; read = read_event self.old location; write = write_event location self.old.acc } }
     {
@@ -132,12 +145,14 @@ impl<'a> Processor<'a> {
         }
     }
 
+    #[inline(always)]
     pub(super) fn xch_direct(&mut self, direct: u8, next: u16) -> Executed
         ensures { effect_of self.new result ≡ effect [] (Instr.XchDirect direct) next self.old }
     {
         self.exchange(location_of(direct), next)
     }
 
+    #[inline(always)]
     pub(super) fn push_direct(&mut self, direct: u8, next: u16) -> Executed
         ensures { effect_of self.new result ≡ effect [] (Instr.Stack StackOp.Push direct) next self.old }
     {
@@ -147,6 +162,7 @@ impl<'a> Processor<'a> {
         Executed::reading(next, read)
     }
 
+    #[inline(always)]
     pub(super) fn pop_direct(&mut self, direct: u8, next: u16) -> Executed
         ensures { effect_of self.new result ≡ effect [] (Instr.Stack StackOp.Pop direct) next self.old }
     {

@@ -11,6 +11,7 @@ impl<'a> Processor<'a> {
     ghost use Rattle.sim51.specs.Effect.{effect};
     ghost use Rattle.sim51.specs.Code.Slots.{effect_of};
 
+    #[inline(always)]
     pub(super) fn step_indirect(&mut self, op: ByOne, ind: Ind, next: u16) -> Executed
         ensures { effect_of self.new result ≡ effect [] (Instr.StepIndirect op ind) next self.old }
     {
@@ -19,6 +20,7 @@ impl<'a> Processor<'a> {
         Executed::at(next)
     }
 
+    #[inline(always)]
     pub(super) fn arith_indirect(&mut self, op: SumOp, ind: Ind, next: u16) -> Executed
         ensures { effect_of self.new result ≡ effect [] (Instr.ArithIndirect op ind) next self.old }
     {
@@ -27,6 +29,7 @@ impl<'a> Processor<'a> {
         Executed::at(next)
     }
 
+    #[inline(always)]
     pub(super) fn logic_indirect(&mut self, op: Logic, ind: Ind, next: u16) -> Executed
         ensures { effect_of self.new result ≡ effect [] (Instr.LogicIndirect op ind) next self.old }
     {
@@ -34,6 +37,7 @@ impl<'a> Processor<'a> {
         Executed::at(next)
     }
 
+    #[inline(always)]
     pub(super) fn mov_indirect_immediate(&mut self, ind: Ind, value: u8, next: u16) -> Executed
         ensures { effect_of self.new result ≡ effect [] (Instr.MovIndirectImmediate ind value) next self.old }
     {
@@ -41,6 +45,7 @@ impl<'a> Processor<'a> {
         Executed::at(next)
     }
 
+    #[inline(always)]
     pub(super) fn mov_indirect_direct(&mut self, ind: Ind, direct: u8, next: u16) -> Executed
         ensures { effect_of self.new result ≡ effect [] (Instr.MovIndirectDirect ind direct) next self.old }
     {
@@ -49,6 +54,7 @@ impl<'a> Processor<'a> {
         Executed::reading(next, read)
     }
 
+    #[inline(always)]
     pub(super) fn load_indirect(&mut self, ind: Ind, next: u16) -> Executed
         ensures { effect_of self.new result ≡ effect [] (Instr.MovIndirect Move.IntoAcc ind) next self.old }
     {
@@ -56,6 +62,7 @@ impl<'a> Processor<'a> {
         Executed::at(next)
     }
 
+    #[inline(always)]
     pub(super) fn store_indirect(&mut self, ind: Ind, next: u16) -> Executed
         ensures { effect_of self.new result ≡ effect [] (Instr.MovIndirect Move.FromAcc ind) next self.old }
     {
@@ -63,6 +70,7 @@ impl<'a> Processor<'a> {
         Executed::at(next)
     }
 
+    #[inline(always)]
     pub(super) fn xch_indirect(&mut self, ind: Ind, next: u16) -> Executed
         ensures { effect_of self.new result ≡ effect [] (Instr.XchIndirect ind) next self.old }
     {
@@ -72,6 +80,7 @@ impl<'a> Processor<'a> {
         Executed::at(next)
     }
 
+    #[inline(always)]
     pub(super) fn xchd(&mut self, ind: Ind, next: u16) -> Executed
         ensures { effect_of self.new result ≡ effect [] (Instr.Xchd ind) next self.old }
     {

@@ -11,6 +11,7 @@ impl<'a> Processor<'a> {
     ghost use Rattle.sim51.specs.Effect.{effect, compares, flag_holds};
     ghost use Rattle.sim51.specs.Code.Slots.{effect_of};
 
+    #[inline(always)]
     pub(super) fn acall(&mut self, target: Addr11, next: u16) -> Executed
         ensures { effect_of self.new result ≡ effect [] (Instr.Acall target) next self.old }
     {
@@ -18,6 +19,7 @@ impl<'a> Processor<'a> {
         Executed::at(target.target(next))
     }
 
+    #[inline(always)]
     pub(super) fn lcall(&mut self, target: u16, next: u16) -> Executed
         ensures { effect_of self.new result ≡ effect [] (Instr.Long LongJump.Lcall target) next self.old }
     {
@@ -25,6 +27,7 @@ impl<'a> Processor<'a> {
         Executed::at(target)
     }
 
+    #[inline(always)]
     pub(super) fn return_from(&mut self, kind: ReturnKind, next: u16) -> Executed
         ensures { effect_of self.new result ≡ effect [] (Instr.Ret kind) next self.old }
     {
@@ -44,6 +47,7 @@ impl<'a> Processor<'a> {
         }
     }
 
+    #[inline(always)]
     pub(super) fn branch_flag(&mut self, test: FlagTest, offset: u8, next: u16) -> Executed
         ensures { effect_of self.new result ≡ effect [] (Instr.BranchFlag test offset) next self.old }
     {
@@ -55,12 +59,14 @@ impl<'a> Processor<'a> {
         Executed::at(pc)
     }
 
+    #[inline(always)]
     pub(super) fn jmp_indirect(&mut self, next: u16) -> Executed
         ensures { effect_of self.new result ≡ effect [] Instr.JmpIndirect next self.old }
     {
         Executed::at(self.dptr().wrapping_add(self.acc as u16))
     }
 
+    #[inline(always)]
     fn compare(&mut self, a: u8, b: u8, target: u16, next: u16) -> Executed
         ensures { effect_of self.new result ≡ compares a b target next self.old }
     {
@@ -68,6 +74,7 @@ impl<'a> Processor<'a> {
         Executed::at(if a == b { next } else { target })
     }
 
+    #[inline(always)]
     pub(super) fn cjne_immediate(&mut self, value: u8, offset: u8, next: u16) -> Executed
         ensures { effect_of self.new result ≡ effect [] (Instr.CjneImmediate value offset) next self.old }
     {
@@ -75,6 +82,7 @@ impl<'a> Processor<'a> {
         self.compare(acc, value, relative_target(next, offset), next)
     }
 
+    #[inline(always)]
     pub(super) fn cjne_direct(&mut self, direct: u8, offset: u8, next: u16) -> Executed
         ensures { effect_of self.new result ≡ effect [] (Instr.CjneDirect direct offset) next self.old }
     {
@@ -88,6 +96,7 @@ impl<'a> Processor<'a> {
         }
     }
 
+    #[inline(always)]
     pub(super) fn cjne_indirect(&mut self, ind: Ind, value: u8, offset: u8, next: u16) -> Executed
         ensures { effect_of self.new result ≡ effect [] (Instr.CjneIndirect ind value offset) next self.old }
     {
@@ -95,6 +104,7 @@ impl<'a> Processor<'a> {
         self.compare(byte, value, relative_target(next, offset), next)
     }
 
+    #[inline(always)]
     pub(super) fn cjne_register(&mut self, reg: Reg, value: u8, offset: u8, next: u16) -> Executed
         ensures { effect_of self.new result ≡ effect [] (Instr.CjneRegister reg value offset) next self.old }
     {
@@ -102,6 +112,7 @@ impl<'a> Processor<'a> {
         self.compare(byte, value, relative_target(next, offset), next)
     }
 
+    #[inline(always)]
     pub(super) fn djnz_direct(&mut self, direct: u8, offset: u8, next: u16) -> Executed
         ensures { effect_of self.new result ≡ effect [] (Instr.DjnzDirect direct offset) next self.old }
     {
@@ -115,6 +126,7 @@ impl<'a> Processor<'a> {
         self.write_and_go(location, byte, pc)
     }
 
+    #[inline(always)]
     pub(super) fn djnz_register(&mut self, reg: Reg, offset: u8, next: u16) -> Executed
         ensures { effect_of self.new result ≡ effect [] (Instr.DjnzRegister reg offset) next self.old }
     {

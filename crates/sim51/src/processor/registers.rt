@@ -11,6 +11,7 @@ impl<'a> Processor<'a> {
     ghost use Rattle.sim51.specs.Effect.{effect};
     ghost use Rattle.sim51.specs.Code.Slots.{effect_of};
 
+    #[inline(always)]
     pub(super) fn step_register(&mut self, op: ByOne, reg: Reg, next: u16) -> Executed
         ensures { effect_of self.new result ≡ effect [] (Instr.StepRegister op reg) next self.old }
     {
@@ -19,6 +20,7 @@ impl<'a> Processor<'a> {
         Executed::at(next)
     }
 
+    #[inline(always)]
     pub(super) fn arith_register(&mut self, op: SumOp, reg: Reg, next: u16) -> Executed
         ensures { effect_of self.new result ≡ effect [] (Instr.ArithRegister op reg) next self.old }
     {
@@ -27,6 +29,7 @@ impl<'a> Processor<'a> {
         Executed::at(next)
     }
 
+    #[inline(always)]
     pub(super) fn logic_register(&mut self, op: Logic, reg: Reg, next: u16) -> Executed
         ensures { effect_of self.new result ≡ effect [] (Instr.LogicRegister op reg) next self.old }
     {
@@ -34,6 +37,7 @@ impl<'a> Processor<'a> {
         Executed::at(next)
     }
 
+    #[inline(always)]
     pub(super) fn mov_register_immediate(&mut self, reg: Reg, value: u8, next: u16) -> Executed
         ensures { effect_of self.new result ≡ effect [] (Instr.MovRegisterImmediate reg value) next self.old }
     {
@@ -41,6 +45,7 @@ impl<'a> Processor<'a> {
         Executed::at(next)
     }
 
+    #[inline(always)]
     pub(super) fn mov_register_direct(&mut self, reg: Reg, direct: u8, next: u16) -> Executed
         ensures { effect_of self.new result ≡ effect [] (Instr.MovRegisterDirect reg direct) next self.old }
     {
@@ -49,6 +54,7 @@ impl<'a> Processor<'a> {
         Executed::reading(next, read)
     }
 
+    #[inline(always)]
     pub(super) fn load_register(&mut self, reg: Reg, next: u16) -> Executed
         ensures { effect_of self.new result ≡ effect [] (Instr.MovRegister Move.IntoAcc reg) next self.old }
     {
@@ -56,6 +62,7 @@ impl<'a> Processor<'a> {
         Executed::at(next)
     }
 
+    #[inline(always)]
     pub(super) fn store_register(&mut self, reg: Reg, next: u16) -> Executed
         ensures { effect_of self.new result ≡ effect [] (Instr.MovRegister Move.FromAcc reg) next self.old }
     {
@@ -63,6 +70,7 @@ impl<'a> Processor<'a> {
         Executed::at(next)
     }
 
+    #[inline(always)]
     pub(super) fn xch_register(&mut self, reg: Reg, next: u16) -> Executed
         ensures { effect_of self.new result ≡ effect [] (Instr.XchRegister reg) next self.old }
     {

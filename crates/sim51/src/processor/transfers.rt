@@ -10,6 +10,7 @@ impl<'a> Processor<'a> {
     ghost use Rattle.sim51.specs.Effect.{effect};
     ghost use Rattle.sim51.specs.Code.Slots.{effect_of};
 
+    #[inline(always)]
     pub(super) fn load_external(&mut self, next: u16) -> Executed
         ensures { effect_of self.new result ≡ effect [] (Instr.MovxDptr Move.IntoAcc) next self.old }
     {
@@ -17,6 +18,7 @@ impl<'a> Processor<'a> {
         Executed::at(next)
     }
 
+    #[inline(always)]
     pub(super) fn store_external(&mut self, next: u16) -> Executed
         ensures { effect_of self.new result ≡ effect [] (Instr.MovxDptr Move.FromAcc) next self.old }
     {
@@ -26,6 +28,7 @@ impl<'a> Processor<'a> {
         Executed::at(next)
     }
 
+    #[inline(always)]
     pub(super) fn load_external_indirect(&mut self, ind: Ind, next: u16) -> Executed
         ensures { effect_of self.new result ≡ effect [] (Instr.MovxIndirect Move.IntoAcc ind) next self.old }
     {
@@ -33,6 +36,7 @@ impl<'a> Processor<'a> {
         Executed::at(next)
     }
 
+    #[inline(always)]
     pub(super) fn store_external_indirect(&mut self, ind: Ind, next: u16) -> Executed
         ensures { effect_of self.new result ≡ effect [] (Instr.MovxIndirect Move.FromAcc ind) next self.old }
     {
@@ -42,6 +46,7 @@ impl<'a> Processor<'a> {
         Executed::at(next)
     }
 
+    #[inline(always)]
     pub(super) fn load_code(&mut self, code: &[u8], base: TableBase, next: u16) -> Executed
         ensures { effect_of self.new result ≡ effect code.now (Instr.Movc base) next self.old }
     {

@@ -1,4 +1,4 @@
-use Rattle.std.proofs.Common.{◌≡◌, length, map, take, refl, ap, ◌∙◌, arith}
+use Rattle.std.proofs.Common.{map, refl, ap, ◌∙◌, arith}
 use Rattle.std.proofs.lemmas.List.{take_all}
 use Rattle.sim51.specs.Code.Quiets.{quiet_of}
 use Rattle.sim51.proofs.Skipping.{quiets_grow}
