@@ -1,0 +1,6 @@
+pub mod Each
+pub mod ExampleProgram
+pub mod RtLabsPaths
+mod RtLabsExamples
+mod RtLabsBrokenExamples
+mod OperatorExamples
