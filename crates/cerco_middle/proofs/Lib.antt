@@ -4,3 +4,5 @@ pub mod RtLabsPaths
 mod RtLabsExamples
 mod RtLabsBrokenExamples
 mod OperatorExamples
+mod CminorExamples
+mod CminorBrokenExamples

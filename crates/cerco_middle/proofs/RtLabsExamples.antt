@@ -13,7 +13,7 @@ use Rattle.cerco_middle.specs.declared.rtlabs.RtOp.{RtOp}
 use Rattle.cerco_middle.specs.declared.rtlabs.RtOp.TheVariants.{Const, Get, Put, Bin, Load, ReadPort, WritePort, Arg, Call, Result, Label, Test, Return, ReturnValue}
 use Rattle.cerco_middle.specs.declared.rtlabs.RtNode.{RtNode}
 use Rattle.cerco_middle.specs.Operators.{kept, held_at, operator_value}
-use Rattle.cerco_middle.specs.Arguments.{Argument}
+use Rattle.cerco_middle.specs.Calls.{Argument}
 use Rattle.cerco_middle.specs.Programs.{KnowsCallers}
 use Rattle.cerco_middle.specs.RtLabs.Graphs.{RtFunction, RtLabs, next_nodes, variables_at, callees_at, callees_of, parameters_of, used_by, written_by}
 use Rattle.cerco_middle.specs.RtLabs.Meaning.{RtState, rtlabs}

@@ -6,7 +6,7 @@ use Rattle.cerco_traces.specs.LabelledGraphs.{In}
 use Rattle.cerco_middle.specs.declared.rtlabs.RtOp.{RtOp}
 use Rattle.cerco_middle.specs.declared.rtlabs.RtOp.TheVariants as op
 use Rattle.cerco_middle.specs.declared.rtlabs.RtNode.{RtNode}
-use Rattle.cerco_middle.specs.Arguments.{Argument}
+use Rattle.cerco_middle.specs.Calls.{Argument}
 use Rattle.cerco_middle.specs.RtLabs.Graphs.{RtFunction, RtLabs, next_nodes, used_by, written_by}
 use Rattle.cerco_middle.proofs.Each.{Each, each_at, AllOf, all_of}
 use Rattle.cerco_middle.specs.RtLabs.WellFormed.{OfFunctions, IsAt, OfNodes, is_call, and_argument, HandsOver, at_entry, after_call, onward, CallFreePath, edge, longer, Unwritten, at_start, passing}

@@ -1,6 +1,7 @@
 pub mod Operators
-pub mod Arguments
+pub mod Calls
 pub mod Programs
 pub mod Lengths
 pub mod RtLabs
+pub mod Cminor
 pub mod Code

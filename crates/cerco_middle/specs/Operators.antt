@@ -63,6 +63,13 @@ held_in h w a x = stored (held_bytes h) w a x
 abbrev pub held_addresses : Held → ℕ → List ℕ
 held_addresses h a = addresses_from (held_bytes h) a
 
+-- ---- tests
+
+-- the first where a value isn't 0, else the other one
+abbrev pub branch : {A : Type 0} → ℕ → A → A → A
+branch zero on_true on_false = on_false
+branch (suc n) on_true on_false = on_true
+
 -- ---- operators on one value
 
 -- 6.5.3.3

@@ -8,7 +8,7 @@ use Rattle.cerco_middle.specs.declared.operators.Held.{Held}
 use Rattle.cerco_middle.specs.declared.rtlabs.RtOp.{RtOp}
 use Rattle.cerco_middle.specs.declared.rtlabs.RtOp.TheVariants as op
 use Rattle.cerco_middle.specs.declared.rtlabs.RtNode.{RtNode}
-use Rattle.cerco_middle.specs.Arguments.{Argument, arguments_from}
+use Rattle.cerco_middle.specs.Calls.{Argument, arguments_from}
 
 pub record RtFunction : Type 0 where
   -- how each variable is held, the parameters first

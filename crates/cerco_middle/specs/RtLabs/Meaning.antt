@@ -10,8 +10,8 @@ use Rattle.cerco_traces.specs.Worlds.{World, update, shown, after_reading, start
 use Rattle.cerco_middle.specs.declared.rtlabs.RtOp.{RtOp}
 use Rattle.cerco_middle.specs.declared.rtlabs.RtOp.TheVariants as op
 use Rattle.cerco_middle.specs.declared.rtlabs.RtNode.{RtNode}
-use Rattle.cerco_middle.specs.Operators.{word_bytes, kept, held_at, held_in, held_addresses, negated, complement, shifted_left, shifted_right, operator_value, low_byte}
-use Rattle.cerco_middle.specs.Arguments.{Values, all_zero, first_variables, assigned, returned}
+use Rattle.cerco_middle.specs.Operators.{word_bytes, kept, held_at, held_in, held_addresses, negated, complement, shifted_left, shifted_right, operator_value, low_byte, branch}
+use Rattle.cerco_middle.specs.Calls.{Values, all_zero, first_variables, assigned, returned, is_over}
 use Rattle.cerco_middle.specs.RtLabs.Graphs.{RtFunction, RtLabs}
 
 -- an open call: its function, the node before which it stands, and its own values
@@ -56,11 +56,6 @@ called (Some g) (Some p) stays f temporaries variables others slots result world
   result = result;
   world = world;
 }
-
--- the first where a number isn't 0, else the other one
-abbrev pub branch : {A : Type 0} → ℕ → A → A → A
-branch zero on_true on_false = on_false
-branch (suc n) on_true on_false = on_true
 
 -- the step of an operation
 abbrev pub op_step : List RtFunction → RtOp → Option ℕ → RtState → RtFunction → Values → Values → List RtCall → Values → ℕ → World → RtState
@@ -120,10 +115,6 @@ node_due (Some node) = op_due node.op node.next
 abbrev pub due : List RtCall → Bool
 due [] = false
 due (c ∷ cs) = node_due (slice_get c.of.nodes c.node)
-
-abbrev pub is_over : {A : Type 0} → List A → Bool
-is_over [] = true
-is_over (c ∷ cs) = false
 
 -- ---- the program
 

@@ -6,7 +6,7 @@ use Rattle.cerco_middle.specs.declared.rtlabs.RtOp.{RtOp}
 use Rattle.cerco_middle.specs.declared.rtlabs.RtOp.TheVariants as op
 use Rattle.cerco_middle.specs.declared.rtlabs.RtNode.{RtNode}
 use Rattle.cerco_middle.specs.Operators.{word_bytes, all_held_bytes}
-use Rattle.cerco_middle.specs.Arguments.{variable_held}
+use Rattle.cerco_middle.specs.Calls.{variable_held}
 use Rattle.cerco_middle.specs.Lengths.{constant_length, get_length, put_length, difference_length, narrow_length, operator_length, shift_left_length, shift_right_length, load_length, store_length, read_port_length, write_port_length, argument_length, call_length, label_length, test_length, return_length, return_value_length, entry_length, start_length}
 use Rattle.cerco_middle.specs.RtLabs.Graphs.{RtFunction, RtLabs, used_by, written_by}
 

@@ -8,7 +8,7 @@ use Rattle.cerco_middle.specs.declared.rtlabs.RtOp.{RtOp}
 use Rattle.cerco_middle.specs.declared.rtlabs.RtOp.TheVariants as op
 use Rattle.cerco_middle.specs.declared.rtlabs.RtNode.{RtNode}
 use Rattle.cerco_middle.specs.Operators.{held_bytes, all_held_bytes}
-use Rattle.cerco_middle.specs.Arguments.{Argument}
+use Rattle.cerco_middle.specs.Calls.{Argument}
 use Rattle.cerco_middle.specs.Programs.{AreNumbered, HoldsFunctions, KnowsCallers}
 use Rattle.cerco_middle.specs.RtLabs.Graphs.{RtFunction, RtLabs, held_parameters, parameters_of, next_nodes, variables_at, callees_at, used_by, written_by, labels_of, callees_of}
 

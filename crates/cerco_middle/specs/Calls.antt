@@ -1,6 +1,7 @@
--- How the arguments of a call reach its parameters in Cminor and RTLabs (CerCo, deliverable 3.3). Arguments are handed over in slots,
--- each under the number of argument bytes before it. So the languages of bytes below can keep it there.
-use Rattle.std.specs.Prelude.{ℕ, zero, suc, ◌+◌, List, [], ◌∷◌, take, Option, Some, None, slice_index_or}
+-- What calls have in common in Cminor and RTLabs (CerCo, deliverable 3.3): the values of a call, how its arguments reach its
+-- parameters, what its variables keep, and its result. Arguments are handed over in slots, each under the number of argument bytes
+-- before it, so that the languages of bytes can keep them there.
+use Rattle.std.specs.Prelude.{ℕ, zero, suc, ◌+◌, Bool, true, false, List, [], ◌∷◌, take, Option, Some, None, slice_index_or}
 use Rattle.cerco_traces.specs.Worlds.{update}
 use Rattle.cerco_middle.specs.declared.operators.Held.{Held}
 use Rattle.cerco_middle.specs.declared.operators.Held.TheVariants.{W16}
@@ -50,3 +51,8 @@ assigned held x value variables = update variables x (kept (variable_held held x
 abbrev pub returned : Option Held → ℕ → ℕ → ℕ
 returned None value before = before
 returned (Some h) value before = kept h value
+
+-- no call is open
+abbrev pub is_over : {A : Type 0} → List A → Bool
+is_over [] = true
+is_over (call ∷ others) = false
