@@ -6,3 +6,5 @@ mod RtLabsBrokenExamples
 mod OperatorExamples
 mod CminorExamples
 mod CminorBrokenExamples
+pub mod MemoryLaws
+pub mod OperatorLaws
