@@ -5,7 +5,7 @@ use Rattle.cerco_base.specs.declared.events.Label.{Label}
 use Rattle.cerco_middle.specs.declared.operators.Held.TheVariants.{U8, W16}
 use Rattle.cerco_middle.specs.Programs.{times_in}
 use Rattle.cerco_middle.specs.Cminor.Trees.{Const, Var, CmStmt, Seq, Set, Call, Loop, Break, Continue, Return, NoStmts, CmFunction, Cminor}
-use Rattle.cerco_middle.specs.Cminor.WellFormed.{VariablesExist, FunctionsExist, CallsAreKnown, ParametersAreFew, MainIsPlain, LabelsStandOnce, JumpsStandInLoops, ReturnsFit, CallsFit}
+use Rattle.cerco_middle.specs.Cminor.WellFormed.{VariablesExist, FunctionsExist, CallsAreKnown, ParametersAreFew, MainIsPlain, LabelsStandOnce, StartsWithBytes, JumpsStandInLoops, ReturnsFit, CallsFit}
 
 abbrev mark : ℕ → Label
 mark l = record { 0 = l }
@@ -42,6 +42,9 @@ many_parameters few = omega (arith, few)
 
 main_takes_a_byte : MainIsPlain (with_functions (of_byte ∷ []) []) → ⊥
 main_takes_a_byte is = let none = (is of_byte refl).0 in omega (arith, none)
+
+start_byte_too_great : StartsWithBytes (record { functions = []; calls = []; main = 0; start = (1, 256) ∷ [] }) → ⊥
+start_byte_too_great bytes = let below = bytes.1 in omega (arith, below)
 
 label_twice : LabelsStandOnce (with_functions (plain (Call None 0 [] (mark 0)) ∷ []) []) → ⊥
 label_twice numbered = by numbered.number numbered.once numbered.no_more

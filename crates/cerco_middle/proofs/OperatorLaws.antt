@@ -64,7 +64,7 @@ sign_stays n x false below sign =
 
 -- an arithmetic shift, where the sign is known
 shift_by_sign : (n k x : ℕ) (negative : Bool) → is_negative n x ≡ negative
-  → shifted_right n k true x ≡ (if negative then count_of_values n - 1 - (count_of_values n - 1 - x) / 2 ^ k else x / 2 ^ k)
+    → shifted_right n k true x ≡ (if negative then count_of_values n - 1 - (count_of_values n - 1 - x) / 2 ^ k else x / 2 ^ k)
 unfolding shifted_right
 shift_by_sign n k x negative sign = ap (λ b. if b then count_of_values n - 1 - (count_of_values n - 1 - x) / 2 ^ k else x / 2 ^ k) sign
 

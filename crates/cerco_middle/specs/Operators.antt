@@ -14,6 +14,10 @@ use Rattle.cerco_middle.specs.declared.operators.CmOp.TheVariants.{Add, Sub, Mul
 abbrev pub word_bytes : ℕ
 word_bytes = 2
 
+-- a number as a value: those of the compiler's trees and graphs have no more bytes
+abbrev pub as_word : ℕ → ℕ
+as_word number = number % count_of_values word_bytes
+
 -- how many numbers of n bytes aren't negative as signed ones
 abbrev pub half_of_values : ℕ → ℕ
 half_of_values n = count_of_values n / 2

@@ -9,14 +9,14 @@ use Rattle.cerco_base.specs.Events.{next_reading}
 use Rattle.cerco_traces.specs.Systems.{System}
 use Rattle.cerco_traces.specs.Worlds.{World, shown, after_reading, start_world}
 use Rattle.cerco_middle.specs.declared.operators.Held.{Held}
-use Rattle.cerco_middle.specs.Operators.{word_bytes, kept, held_at, held_in, held_addresses, negated, complement, shifted_left, shifted_right, operator_value, low_byte, branch}
+use Rattle.cerco_middle.specs.Operators.{word_bytes, as_word, kept, held_at, held_in, held_addresses, negated, complement, shifted_left, shifted_right, operator_value, low_byte, branch}
 use Rattle.cerco_middle.specs.Calls.{Values, all_zero, handed_over, first_variables, assigned, returned, is_over}
 use Rattle.cerco_middle.specs.Cminor.Trees.{CmExpr, Const, Var, Load, Neg, Complement, Narrow, Bin, Shl, Shr, CmCond, Test, Not, Both, Either, CmStmt, Seq, Set, Store, ReadPort, WritePort, Call, If, Loop, Do, Break, Continue, Return, CmStmts, NoStmts, Then, CmFunction, Cminor, held_parameters}
 
 -- ---- expressions
 
 abbrev pub value : CmExpr → Values → World → ℕ
-value (Const number) vs w = number
+value (Const number) vs w = as_word number
 value (Var x) vs w = vs x
 value (Load h e) vs w = held_at h w (value e vs w)
 value (Neg e) vs w = negated word_bytes (value e vs w)

@@ -3,7 +3,7 @@
 use Rattle.std.specs.Prelude.{◌≡◌, ℕ, ◌<◌, ◌≤◌, List, [], ◌∷◌, length, Option, Some, None, slice_get}
 use Rattle.cerco_middle.specs.declared.operators.Held.{Held}
 use Rattle.cerco_middle.specs.Operators.{all_held_bytes}
-use Rattle.cerco_middle.specs.Programs.{AreNumbered, HoldsFunctions, KnowsCallers}
+use Rattle.cerco_middle.specs.Programs.{AreBytesAtAddresses, AreNumbered, HoldsFunctions, KnowsCallers}
 use Rattle.cerco_middle.specs.Cminor.Trees.{CmExpr, Const, Var, Load, Neg, Complement, Narrow, Bin, Shl, Shr, CmCond, Test, Not, Both, Either, CmStmt, Seq, Set, Store, ReadPort, WritePort, Call, If, Loop, Do, Break, Continue, Return, CmStmts, NoStmts, Then, CmFunction, Cminor, held_parameters, labels_of, callees_of}
 
 -- it holds of each function
@@ -97,6 +97,10 @@ ParametersAreFew f = all_held_bytes (held_parameters f) ≤ 12
 abbrev pub MainIsPlain : Cminor → Type 0
 MainIsPlain p = (f : CmFunction) → slice_get p.functions p.main ≡ Some f → (f.params ≡ 0) × (f.result ≡ None)
 
+-- What external RAM has at first are bytes at addresses.
+abbrev pub StartsWithBytes : Cminor → Type 0
+StartsWithBytes p = AreBytesAtAddresses p.start
+
 abbrev pub LabelsStandOnce : Cminor → Type 0
 LabelsStandOnce p = AreNumbered (labels_of p.functions)
 
@@ -175,4 +179,5 @@ pub record IsWellFormed (p : Cminor) : Type 0 where
   pub calls_are_known : CallsAreKnown p
   pub main_is_plain : MainIsPlain p
   pub labels_stand_once : LabelsStandOnce p
+  pub starts_with_bytes : StartsWithBytes p
   pub functions : OfFunctions p (IsWellFormedFunction p)

@@ -10,7 +10,7 @@ use Rattle.cerco_traces.specs.Worlds.{World, update, shown, after_reading, start
 use Rattle.cerco_middle.specs.declared.rtlabs.RtOp.{RtOp}
 use Rattle.cerco_middle.specs.declared.rtlabs.RtOp.TheVariants as op
 use Rattle.cerco_middle.specs.declared.rtlabs.RtNode.{RtNode}
-use Rattle.cerco_middle.specs.Operators.{word_bytes, kept, held_at, held_in, held_addresses, negated, complement, shifted_left, shifted_right, operator_value, low_byte, branch}
+use Rattle.cerco_middle.specs.Operators.{word_bytes, as_word, kept, held_at, held_in, held_addresses, negated, complement, shifted_left, shifted_right, operator_value, low_byte, branch}
 use Rattle.cerco_middle.specs.Calls.{Values, all_zero, first_variables, assigned, returned, is_over}
 use Rattle.cerco_middle.specs.RtLabs.Graphs.{RtFunction, RtLabs}
 
@@ -59,7 +59,7 @@ called (Some g) (Some p) stays f temporaries variables others slots result world
 
 -- the step of an operation
 abbrev pub op_step : List RtFunction → RtOp → Option ℕ → RtState → RtFunction → Values → Values → List RtCall → Values → ℕ → World → RtState
-op_step fs (op.Const t number) next stays f ts vs cs slots r w = goes_on next stays f (update ts t number) vs cs slots r w
+op_step fs (op.Const t number) next stays f ts vs cs slots r w = goes_on next stays f (update ts t (as_word number)) vs cs slots r w
 op_step fs (op.Get t x) next stays f ts vs cs slots r w = goes_on next stays f (update ts t (vs x)) vs cs slots r w
 op_step fs (op.Put x t) next stays f ts vs cs slots r w = goes_on next stays f ts (assigned f.held x (ts t) vs) cs slots r w
 op_step fs (op.Neg t) next stays f ts vs cs slots r w = goes_on next stays f (update ts t (negated word_bytes (ts t))) vs cs slots r w

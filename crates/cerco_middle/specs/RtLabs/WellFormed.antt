@@ -9,7 +9,7 @@ use Rattle.cerco_middle.specs.declared.rtlabs.RtOp.TheVariants as op
 use Rattle.cerco_middle.specs.declared.rtlabs.RtNode.{RtNode}
 use Rattle.cerco_middle.specs.Operators.{held_bytes, all_held_bytes}
 use Rattle.cerco_middle.specs.Calls.{Argument}
-use Rattle.cerco_middle.specs.Programs.{AreNumbered, HoldsFunctions, KnowsCallers}
+use Rattle.cerco_middle.specs.Programs.{AreBytesAtAddresses, AreNumbered, HoldsFunctions, KnowsCallers}
 use Rattle.cerco_middle.specs.RtLabs.Graphs.{RtFunction, RtLabs, held_parameters, parameters_of, next_nodes, variables_at, callees_at, used_by, written_by, labels_of, callees_of}
 
 -- it holds of each function
@@ -49,6 +49,10 @@ ParametersAreFew f = all_held_bytes (held_parameters f) ≤ 12
 -- `main` has no parameter and no result.
 abbrev pub MainIsPlain : RtLabs → Type 0
 MainIsPlain p = (f : RtFunction) → slice_get p.functions p.main ≡ Some f → (f.params ≡ 0) × (f.result ≡ None)
+
+-- What external RAM has at first are bytes at addresses.
+abbrev pub StartsWithBytes : RtLabs → Type 0
+StartsWithBytes p = AreBytesAtAddresses p.start
 
 abbrev pub LabelsStandOnce : RtLabs → Type 0
 LabelsStandOnce p = AreNumbered (labels_of p.functions)
@@ -182,4 +186,5 @@ pub record IsWellFormed (p : RtLabs) : Type 0 where
   pub calls_are_known : CallsAreKnown p
   pub main_is_plain : MainIsPlain p
   pub labels_stand_once : LabelsStandOnce p
+  pub starts_with_bytes : StartsWithBytes p
   pub functions : OfFunctions p (IsWellFormedFunction p)
