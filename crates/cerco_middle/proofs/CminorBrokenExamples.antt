@@ -1,5 +1,5 @@
 -- Programs of Cminor that break one condition each.
-use Rattle.std.proofs.Common.{◌≡◌, ℕ, zero, suc, ◌<◌, ◌≤◌, List, [], ◌∷◌, Option, Some, None, refl, arith}
+use Rattle.std.proofs.Common.{◌≡◌, ℕ, zero, suc, ◌<◌, ◌≤◌, List, [], ◌∷◌, Some, None, refl, arith}
 use Rattle.cerco_base.specs.CallOrder.{Called}
 use Rattle.cerco_base.specs.declared.events.Label.{Label}
 use Rattle.cerco_middle.specs.declared.operators.Held.TheVariants.{U8, W16}

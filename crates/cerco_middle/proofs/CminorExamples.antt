@@ -1,7 +1,6 @@
 -- Cminor by the program of ExampleProgram, which is well formed, its run and its sums; further statements by their runs; and the
 -- sums of `unsigned char a;unsigned int b;void main(void){b=a;}`.
-use Rattle.std.proofs.Common.{◌≡◌, ℕ, zero, suc, ◌<◌, List, [], ◌∷◌, Option, Some, None, true, false, refl, sym, ap, subst, arith}
-use Rattle.std.specs.Prelude.{slice_get, length}
+use Rattle.std.proofs.Common.{◌≡◌, ℕ, List, [], ◌∷◌, Some, None, true, refl, subst, arith}
 use Rattle.std.proofs.lemmas.Option.{same_Some}
 use Rattle.cerco_base.specs.Events.{label}
 use Rattle.cerco_base.specs.declared.events.Event.{Event}
@@ -11,10 +10,10 @@ use Rattle.cerco_base.specs.declared.events.Label.{Label}
 use Rattle.cerco_traces.specs.Headline.{after}
 use Rattle.cerco_traces.specs.Worlds.{update}
 use Rattle.cerco_middle.specs.declared.operators.Held.TheVariants.{U8, I8, W16}
-use Rattle.cerco_middle.specs.declared.operators.CmOp.TheVariants.{Add, Sub, Eq, LtU}
+use Rattle.cerco_middle.specs.declared.operators.CmOp.TheVariants.{Add, Sub, LtU}
 use Rattle.cerco_middle.specs.Operators.{kept, held_at, operator_value}
 use Rattle.cerco_middle.specs.Programs.{KnowsCallers}
-use Rattle.cerco_middle.specs.Cminor.Trees.{CmExpr, Const, Var, Load, Bin, Test, Not, Both, Either, CmStmt, Seq, Set, Store, ReadPort, WritePort, Call, If, Loop, Do, Break, Continue, Return, NoStmts, Then, CmFunction, Cminor, callees_of}
+use Rattle.cerco_middle.specs.Cminor.Trees.{Const, Var, Load, Bin, Test, Not, Both, Either, CmStmt, Seq, Set, Store, ReadPort, WritePort, Call, If, Loop, Do, Break, Continue, Return, NoStmts, Then, CmFunction, Cminor, callees_of}
 use Rattle.cerco_middle.specs.Cminor.Meaning.{CmState, cminor}
 use Rattle.cerco_middle.specs.Cminor.WellFormed.{OfStmts, CallsBelow, TargetFits, CallFits, CallsAreKnown, IsWellFormedFunction, IsWellFormed}
 use Rattle.cerco_middle.specs.Cminor.Sums.{long_length, function_length, register_need}

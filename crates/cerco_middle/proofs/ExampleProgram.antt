@@ -3,7 +3,7 @@
 --     unsigned char limit=3;
 --     unsigned char next(unsigned char a){return a+1;}
 --     void main(void){unsigned char x;x=P1;while(x<limit)x=next(x);P1=x;}
-use Rattle.std.proofs.Common.{◌≡◌, ℕ, zero, suc, ◌+◌, ◌<◌, ◌≤◌, List, [], ◌∷◌, refl, ap, ◌∙◌, ne_eqb, if◌then◌else◌, arith}
+use Rattle.std.proofs.Common.{◌≡◌, ℕ, zero, suc, ◌<◌, ◌≤◌, List, [], ◌∷◌, refl, ap, ◌∙◌, ne_eqb, if◌then◌else◌, arith}
 use Rattle.std.specs.Prelude.{Contains}
 use Rattle.cerco_base.specs.CallOrder.{Called}
 use Rattle.cerco_base.specs.Events.{label}

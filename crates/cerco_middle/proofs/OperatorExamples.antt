@@ -1,5 +1,5 @@
 -- Values of the operators on two and four bytes, and the lengths of their code.
-use Rattle.std.proofs.Common.{◌≡◌, ℕ, List, [], ◌∷◌, true, false, refl}
+use Rattle.std.proofs.Common.{◌≡◌, [], ◌∷◌, true, false, refl}
 use Rattle.std.specs.Prelude.{map}
 use Rattle.cerco_middle.specs.declared.operators.Held.TheVariants.{U8, I8, W16}
 use Rattle.cerco_middle.specs.declared.operators.CmOp.TheVariants.{Add, Sub, Mul, Div, Rem, And, Or, Xor, Eq, Ne, LtS, LtU, LeS, LeU}

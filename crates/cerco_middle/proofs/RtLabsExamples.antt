@@ -1,13 +1,12 @@
 -- RTLabs by the program of ExampleProgram, which is well formed, its run, its sums, and programs that break a condition each.
-use Rattle.std.proofs.Common.{◌≡◌, ◌⊎◌, inl, inr, ℕ, zero, suc, ◌+◌, ◌<◌, ◌≤◌, List, [], ◌∷◌, Option, Some, None, Bool, true, false, refl, sym, ap, subst, ◌∙◌, eq-eqb, arith}
-use Rattle.std.specs.Prelude.{slice_get, slice_index_or, Contains, IsPermutation, nat_eq, if◌then◌else◌, ◌||◌}
-use Rattle.std.proofs.lemmas.Option.{none-some, same_Some}
-use Rattle.std.proofs.lemmas.List.Sorted.{IsPermutation-refl, length_permutation}
+use Rattle.std.proofs.Common.{◌≡◌, ◌⊎◌, inl, inr, ℕ, zero, suc, ◌<◌, List, [], ◌∷◌, Some, None, true, false, refl, sym, ap, subst, ◌∙◌, eq-eqb, arith}
+use Rattle.std.specs.Prelude.{slice_index_or, Contains, IsPermutation, nat_eq, if◌then◌else◌, ◌||◌}
+use Rattle.std.proofs.lemmas.Option.{same_Some}
+use Rattle.std.proofs.lemmas.List.Sorted.{IsPermutation-refl}
 use Rattle.cerco_traces.specs.LabelledGraphs.{In}
 use Rattle.cerco_traces.specs.Headline.{after}
 use Rattle.cerco_traces.specs.Worlds.{update}
-use Rattle.cerco_middle.specs.declared.operators.Held.{Held}
-use Rattle.cerco_middle.specs.declared.operators.Held.TheVariants.{U8, I8, W16}
+use Rattle.cerco_middle.specs.declared.operators.Held.TheVariants.{U8}
 use Rattle.cerco_middle.specs.declared.operators.CmOp.TheVariants.{Add, LtU}
 use Rattle.cerco_middle.specs.declared.rtlabs.RtOp.{RtOp}
 use Rattle.cerco_middle.specs.declared.rtlabs.RtOp.TheVariants.{Const, Get, Put, Bin, Load, ReadPort, WritePort, Arg, Call, Result, Label, Test, Return, ReturnValue}
@@ -15,9 +14,9 @@ use Rattle.cerco_middle.specs.declared.rtlabs.RtNode.{RtNode}
 use Rattle.cerco_middle.specs.Operators.{kept, held_at, operator_value}
 use Rattle.cerco_middle.specs.Calls.{Argument}
 use Rattle.cerco_middle.specs.Programs.{KnowsCallers}
-use Rattle.cerco_middle.specs.RtLabs.Graphs.{RtFunction, RtLabs, next_nodes, variables_at, callees_at, callees_of, parameters_of, used_by, written_by}
+use Rattle.cerco_middle.specs.RtLabs.Graphs.{RtFunction, RtLabs, next_nodes, variables_at, callees_at, callees_of, parameters_of, used_by}
 use Rattle.cerco_middle.specs.RtLabs.Meaning.{RtState, rtlabs}
-use Rattle.cerco_middle.specs.RtLabs.WellFormed.{OfNodes, VariablesExist, NodesExist, FunctionsExist, CallsAreKnown, ParametersAreFew, MainIsPlain, LabelsStandOnce, GoesOn, PathsGoOn, ReturnsAs, ReturnsFit, is_call, HandsOver, at_entry, TakesExactly, ArgumentsMeetCalls, edge, CallFreePath, TakesOne, IsTaken, ArgumentsAreTaken, IsWithinTwelve, ArgumentsAreWithinTwelve, IsAfterCall, HasCame, ResultsFollowCalls, Unwritten, at_start, WrittenBeforeUse, IsWellFormedFunction, IsWellFormed}
+use Rattle.cerco_middle.specs.RtLabs.WellFormed.{OfNodes, CallsAreKnown, GoesOn, ReturnsAs, HandsOver, TakesExactly, CallFreePath, TakesOne, IsTaken, IsWithinTwelve, HasCame, Unwritten, IsWellFormedFunction, IsWellFormed}
 use Rattle.cerco_middle.proofs.Each.{◌&◌, each_at}
 use Rattle.cerco_middle.proofs.ExampleProgram.{example_calls, example_events, holds_functions, knows_of_next, knows_of_main, example_numbered}
 use Rattle.cerco_middle.proofs.RtLabsPaths.{each_all, handed_over_as, holds_along, written_on_the_way}

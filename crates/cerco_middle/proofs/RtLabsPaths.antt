@@ -1,15 +1,14 @@
 -- What holds along all paths of a graph of RTLabs, from what holds at each of its nodes. A value for each node is what a path brings
 -- there, and each node has to pass on what its next nodes await.
-use Rattle.std.proofs.Common.{◌≡◌, ◌⊎◌, inl, inr, ℕ, zero, suc, ◌<◌, List, [], ◌∷◌, Option, Some, None, Bool, true, false, refl, sym, ap, subst, ◌∙◌, if◌then◌else◌}
+use Rattle.std.proofs.Common.{◌≡◌, ◌⊎◌, inl, inr, ℕ, List, [], Some, false, sym, ap, ◌∙◌, if◌then◌else◌}
 use Rattle.std.specs.Prelude.{slice_get}
 use Rattle.cerco_traces.specs.LabelledGraphs.{In}
 use Rattle.cerco_middle.specs.declared.rtlabs.RtOp.{RtOp}
-use Rattle.cerco_middle.specs.declared.rtlabs.RtOp.TheVariants as op
 use Rattle.cerco_middle.specs.declared.rtlabs.RtNode.{RtNode}
 use Rattle.cerco_middle.specs.Calls.{Argument}
-use Rattle.cerco_middle.specs.RtLabs.Graphs.{RtFunction, RtLabs, next_nodes, used_by, written_by}
+use Rattle.cerco_middle.specs.RtLabs.Graphs.{RtFunction, next_nodes, written_by}
 use Rattle.cerco_middle.proofs.Each.{Each, each_at, AllOf, all_of}
-use Rattle.cerco_middle.specs.RtLabs.WellFormed.{OfFunctions, IsAt, OfNodes, is_call, and_argument, HandsOver, at_entry, after_call, onward, CallFreePath, edge, longer, Unwritten, at_start, passing}
+use Rattle.cerco_middle.specs.RtLabs.WellFormed.{OfNodes, is_call, and_argument, HandsOver, at_entry, after_call, onward, CallFreePath, edge, longer, Unwritten, at_start, passing}
 
 -- it holds of all the numbers in a list of each node
 pub each_all : (nodes : List RtNode) (list : RtNode → List ℕ) (Holds : ℕ → RtNode → ℕ → Type 0) → Each (λ at node. AllOf (Holds at node) (list node)) nodes

@@ -1,7 +1,7 @@
 -- What calls have in common in Cminor and RTLabs (CerCo, deliverable 3.3): the values of a call, how its arguments reach its
 -- parameters, what its variables keep, and its result. Arguments are handed over in slots, each under the number of argument bytes
 -- before it, so that the languages of bytes can keep them there.
-use Rattle.std.specs.Prelude.{ℕ, zero, suc, ◌+◌, Bool, true, false, List, [], ◌∷◌, take, Option, Some, None, slice_index_or}
+use Rattle.std.specs.Prelude.{ℕ, suc, ◌+◌, Bool, true, false, List, [], ◌∷◌, take, Option, Some, None, slice_index_or}
 use Rattle.cerco_traces.specs.Worlds.{update}
 use Rattle.cerco_middle.specs.declared.operators.Held.{Held}
 use Rattle.cerco_middle.specs.declared.operators.Held.TheVariants.{W16}

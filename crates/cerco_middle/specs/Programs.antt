@@ -1,8 +1,7 @@
 -- Conditions on a whole program that Cminor, RTLabs and the languages of bytes share: on what it sets first, its labels and its calls
 -- (CerCo, deliverables 2.1, 3.3 and 4.3).
-use Rattle.std.specs.Prelude.{◌≡◌, ◌≢◌, ℕ, zero, suc, ◌+◌, ◌<◌, ◌≤◌, List, [], ◌∷◌, length, Option, None, Contains, slice_get, Some, nat_eq, if◌then◌else◌}
+use Rattle.std.specs.Prelude.{◌≡◌, ℕ, suc, ◌<◌, ◌≤◌, List, [], ◌∷◌, Contains, slice_get, Some, nat_eq, if◌then◌else◌}
 use Rattle.cerco_base.specs.CallOrder.{Called, functions_of}
-use Rattle.cerco_middle.specs.declared.operators.Held.{Held}
 
 -- What a program sets external RAM to at first are bytes at addresses.
 abbrev pub AreBytesAtAddresses : List (ℕ × ℕ) → Type 0

@@ -1,8 +1,7 @@
 -- The programs of RTLabs, as definitions speak of them: a control flow graph for each function, with one operation a node (CerCo,
 -- deliverable 3.3).
-use Rattle.std.specs.Prelude.{ℕ, List, [], ◌∷◌, take, Option, Some, None, slice_get, option_map}
+use Rattle.std.specs.Prelude.{ℕ, List, [], ◌∷◌, take, Option, slice_get, option_map}
 use Rattle.cerco_base.specs.CallOrder.{Called}
-use Rattle.cerco_base.specs.declared.events.Label.{Label}
 use Rattle.cerco_traces.specs.LabelledGraphs.{NodeKind, LabelNode, BranchNode, CallNode, PlainNode, FlowGraph, successors}
 use Rattle.cerco_middle.specs.declared.operators.Held.{Held}
 use Rattle.cerco_middle.specs.declared.rtlabs.RtOp.{RtOp}

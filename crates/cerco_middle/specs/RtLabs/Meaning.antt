@@ -1,7 +1,7 @@
 -- The meaning of RTLabs (CerCo, deliverable 3.3): a step a node, over the variables and temporaries of the running call, the slots
 -- in which arguments are handed over, one result, and the world. A run with a node, function or successor that isn't there
 -- stays where it is, so every program has a meaning.
-use Rattle.std.specs.Prelude.{ℕ, zero, suc, ◌%◌, List, [], ◌∷◌, length, Option, Some, None, slice_get, Bool, true, false}
+use Rattle.std.specs.Prelude.{ℕ, List, [], ◌∷◌, length, Option, Some, None, slice_get, Bool, true, false}
 use Rattle.cerco_base.specs.declared.events.Event.TheVariants as event
 use Rattle.cerco_base.specs.declared.events.Port.TheVariants.{P1}
 use Rattle.cerco_base.specs.Events.{next_reading}
