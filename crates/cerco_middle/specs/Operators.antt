@@ -10,7 +10,7 @@ use Rattle.cerco_middle.specs.declared.operators.Held.TheVariants.{U8, I8, W16}
 use Rattle.cerco_middle.specs.declared.operators.CmOp.{CmOp}
 use Rattle.cerco_middle.specs.declared.operators.CmOp.TheVariants.{Add, Sub, Mul, Div, Rem, And, Or, Xor, Eq, Ne, LtS, LtU, LeS, LeU}
 
--- how many bytes a value has
+-- how many bytes a value of these languages has
 abbrev pub word_bytes : ℕ
 word_bytes = 2
 
@@ -106,9 +106,9 @@ abbrev pub remainder : ℕ → ℕ → ℕ
 remainder x zero = zero
 remainder x (suc y) = x % suc y
 
--- 6.5.8: the order of signed numbers is that of the unsigned ones half of all numbers further on
-abbrev pub is_less : ℕ → ℕ → ℕ → Bool
-is_less n x y = nat_lt ((x + half_of_values n) % count_of_values n) ((y + half_of_values n) % count_of_values n)
+-- 6.5.8: signed numbers have the order of the unsigned ones that are half of all numbers further on
+abbrev pub is_less_signed : ℕ → ℕ → ℕ → Bool
+is_less_signed n x y = nat_lt ((x + half_of_values n) % count_of_values n) ((y + half_of_values n) % count_of_values n)
 
 -- 6.5.5, 6.5.6 and 6.5.8 to 6.5.12: a comparison gives 1 or 0
 unfoldable pub operator_value : ℕ → CmOp → ℕ → ℕ → ℕ
@@ -122,7 +122,7 @@ operator_value n Or x y = bit_or x y
 operator_value n Xor x y = bit_xor x y
 operator_value n Eq x y = bit_value (nat_eq x y)
 operator_value n Ne x y = bit_value (not (nat_eq x y))
-operator_value n LtS x y = bit_value (is_less n x y)
+operator_value n LtS x y = bit_value (is_less_signed n x y)
 operator_value n LtU x y = bit_value (nat_lt x y)
-operator_value n LeS x y = bit_value (not (is_less n y x))
+operator_value n LeS x y = bit_value (not (is_less_signed n y x))
 operator_value n LeU x y = bit_value (not (nat_lt y x))

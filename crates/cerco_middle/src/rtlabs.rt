@@ -32,16 +32,9 @@ pub enum RtOp {
         right: u32,
     },
     /// The temporary is shifted left by so many bits.
-    Shl {
-        bits: u8,
-        temporary: u32,
-    },
-    /// The temporary is shifted right by so many bits, and keeps its sign where the shift is arithmetic.
-    Shr {
-        bits: u8,
-        arithmetic: bool,
-        temporary: u32,
-    },
+    Shl(u8, u32),
+    /// The temporary is shifted right by so many bits. It keeps its sign where the flag is true.
+    Shr(u8, bool, u32),
     /// The temporary becomes what is held in external RAM at its address.
     Load(Held, u32),
     /// The value is stored in external RAM at the address.
