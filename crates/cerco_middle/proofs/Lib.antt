@@ -1,4 +1,5 @@
 pub mod Each
+pub mod CminorRows
 pub mod ExampleProgram
 pub mod RtLabsPaths
 mod RtLabsExamples
