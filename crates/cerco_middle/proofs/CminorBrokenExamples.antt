@@ -5,7 +5,7 @@ use Rattle.cerco_base.specs.declared.events.Label.{Label}
 use Rattle.cerco_middle.specs.declared.operators.Held.TheVariants.{U8, W16}
 use Rattle.cerco_middle.specs.Programs.{times_in}
 use Rattle.cerco_middle.specs.Cminor.Trees.{Const, Var, CmStmt, Seq, Set, Call, Loop, Break, Continue, Return, NoStmts, CmFunction, Cminor}
-use Rattle.cerco_middle.specs.Cminor.WellFormed.{VariablesExist, FunctionsExist, CallsAreKnown, ParametersAreFew, MainIsPlain, LabelsStandOnce, StartsWithBytes, JumpsStandInLoops, ReturnsFit, CallsFit}
+use Rattle.cerco_middle.specs.Cminor.WellFormed.{VariablesExist, FunctionsExist, CallsAreKnown, ParametersAreFew, MainIsPlain, LabelsAreNumbered, StartsWithBytes, JumpsAreInLoops, ReturnsFit, CallsFit}
 
 abbrev mark : ℕ → Label
 mark l = record { 0 = l }
@@ -46,21 +46,21 @@ main_takes_a_byte is = let none = (is of_byte refl).0 in omega (arith, none)
 start_byte_too_great : StartsWithBytes (record { functions = []; calls = []; main = 0; start = (1, 256) ∷ [] }) → ⊥
 start_byte_too_great bytes = let below = bytes.1 in omega (arith, below)
 
-label_twice : LabelsStandOnce (with_functions (plain (Call None 0 [] (mark 0)) ∷ []) []) → ⊥
+label_twice : LabelsAreNumbered (with_functions (plain (Call None 0 [] (mark 0)) ∷ []) []) → ⊥
 label_twice numbered = by numbered.number numbered.once numbered.no_more
   where
     by : (n : ℕ) → ((l : ℕ) → l < n → times_in l (0 ∷ 0 ∷ []) ≡ 1) → ((l : ℕ) → n ≤ l → times_in l (0 ∷ 0 ∷ []) ≡ 0) → ⊥
     by zero once no_more = let two = no_more 0 (omega arith) in omega (arith, two)
     by (suc n) once no_more = let two = once 0 (omega arith) in omega (arith, two)
 
-break_outside : JumpsStandInLoops (plain Break) → ⊥
-break_outside stand = stand
+break_outside : JumpsAreInLoops (plain Break) → ⊥
+break_outside inside = inside
 
-continue_in_step : JumpsStandInLoops (plain (Loop None (mark 1) nothing Continue (mark 2))) → ⊥
-continue_in_step stand = stand.1
+continue_in_step : JumpsAreInLoops (plain (Loop None (mark 1) nothing Continue (mark 2))) → ⊥
+continue_in_step inside = inside.1
 
-loop_in_step : JumpsStandInLoops (plain (Loop None (mark 1) nothing (Loop None (mark 2) Break nothing (mark 3)) (mark 4))) → ⊥
-loop_in_step stand = stand.1.0
+loop_in_step : JumpsAreInLoops (plain (Loop None (mark 1) nothing (Loop None (mark 2) Break nothing (mark 3)) (mark 4))) → ⊥
+loop_in_step inside = inside.1.0
 
 value_without_result : ReturnsFit (plain (Return (Some (Const 0)))) → ⊥
 value_without_result fit = fit

@@ -74,7 +74,7 @@ next_formed : IsWellFormedFunction program next
 next_formed = record {
   variables_exist = (omega arith, (omega arith, tt));
   parameters_are_few = omega arith;
-  jumps_stand_in_loops = tt;
+  jumps_are_in_loops = tt;
   returns_fit = tt;
   calls_fit = tt;
 }
@@ -86,7 +86,7 @@ main_formed : IsWellFormedFunction program the_main
 main_formed = record {
   variables_exist = (omega arith, (tt, (((tt, omega arith), ((omega arith, tt), (omega arith, (omega arith, tt)), (tt, tt))), omega arith)));
   parameters_are_few = omega arith;
-  jumps_stand_in_loops = (((tt, tt), (tt, tt)), tt);
+  jumps_are_in_loops = (((tt, tt), (tt, tt)), tt);
   returns_fit = (tt, (((tt, tt), (tt, tt, (tt, tt))), tt));
   calls_fit = (tt, (((tt, tt), (tt, call_fits, (tt, tt))), tt));
 }
@@ -99,7 +99,7 @@ formed = record {
   functions_exist = (omega arith, each_at (λ i f. OfStmts (CallsBelow 2) f.body) program.functions (tt & (tt, (((tt, tt), (tt, omega arith, (tt, tt))), tt)) & tt));
   calls_are_known = calls_known;
   main_is_plain = λ f is. subst (λ f. (f.params ≡ 0) × (f.result ≡ None)) (same_Some the_main f is) (refl, refl);
-  labels_stand_once = example_numbered;
+  labels_are_numbered = example_numbered;
   starts_with_bytes = (omega arith, omega arith, tt);
   functions = each_at (λ i f. IsWellFormedFunction program f) program.functions (next_formed & main_formed & tt);
 }

@@ -9,7 +9,7 @@ use Rattle.cerco_middle.specs.declared.rtlabs.RtOp.TheVariants.{Get, WritePort, 
 use Rattle.cerco_middle.specs.declared.rtlabs.RtNode.{RtNode}
 use Rattle.cerco_middle.specs.Programs.{times_in}
 use Rattle.cerco_middle.specs.RtLabs.Graphs.{RtFunction, RtLabs}
-use Rattle.cerco_middle.specs.RtLabs.WellFormed.{VariablesExist, NodesExist, FunctionsExist, CallsAreKnown, ParametersAreFew, MainIsPlain, LabelsStandOnce, StartsWithBytes, PathsGoOn, ReturnsFit, at_entry, onward, ArgumentsMeetCalls, edge, ArgumentsAreTaken, ArgumentsAreWithinTwelve, ResultsFollowCalls, at_start, WrittenBeforeUse}
+use Rattle.cerco_middle.specs.RtLabs.WellFormed.{VariablesExist, NodesExist, FunctionsExist, CallsAreKnown, ParametersAreFew, MainIsPlain, LabelsAreNumbered, StartsWithBytes, PathsGoOn, ReturnsFit, at_entry, onward, ArgumentsMeetCalls, edge, ArgumentsAreTaken, ArgumentsAreWithinTwelve, ResultsFollowCalls, at_start, WrittenBeforeUse}
 use Rattle.cerco_middle.proofs.Each.{◌&◌, each_at}
 
 abbrev to : RtOp → ℕ → RtNode
@@ -65,14 +65,14 @@ main_takes_a_byte is = let none = (is of_byte refl).0 in omega (arith, none)
 start_byte_too_great : StartsWithBytes (record { functions = []; calls = []; main = 0; start = (1, 256) ∷ [] }) → ⊥
 start_byte_too_great bytes = let below = bytes.1 in omega (arith, below)
 
-label_twice : LabelsStandOnce (with_functions (plain (to (mark 0) 1 ∷ to (mark 0) 0 ∷ []) ∷ []) []) → ⊥
+label_twice : LabelsAreNumbered (with_functions (plain (to (mark 0) 1 ∷ to (mark 0) 0 ∷ []) ∷ []) []) → ⊥
 label_twice numbered = by numbered.number numbered.once numbered.no_more
   where
     by : (n : ℕ) → ((l : ℕ) → l < n → times_in l (0 ∷ 0 ∷ []) ≡ 1) → ((l : ℕ) → n ≤ l → times_in l (0 ∷ 0 ∷ []) ≡ 0) → ⊥
     by zero once no_more = let two = no_more 0 (omega arith) in omega (arith, two)
     by (suc n) once no_more = let two = once 0 (omega arith) in omega (arith, two)
 
-label_left_out : LabelsStandOnce (with_functions (plain (to (mark 1) 0 ∷ []) ∷ []) []) → ⊥
+label_left_out : LabelsAreNumbered (with_functions (plain (to (mark 1) 0 ∷ []) ∷ []) []) → ⊥
 label_left_out numbered = by numbered.number numbered.once numbered.no_more
   where
     by : (n : ℕ) → ((l : ℕ) → l < n → times_in l (1 ∷ []) ≡ 1) → ((l : ℕ) → n ≤ l → times_in l (1 ∷ []) ≡ 0) → ⊥

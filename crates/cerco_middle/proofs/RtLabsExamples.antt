@@ -294,7 +294,7 @@ formed = record {
   );
   calls_are_known = calls_known;
   main_is_plain = λ f is. subst (λ f. (f.params ≡ 0) × (f.result ≡ None)) (same_Some the_main f is) (refl, refl);
-  labels_stand_once = example_numbered;
+  labels_are_numbered = example_numbered;
   starts_with_bytes = (omega arith, omega arith, tt);
   functions = each_at (λ i f. IsWellFormedFunction program f) program.functions (next_formed & main_formed & tt);
 }

@@ -1,5 +1,5 @@
 -- What holds along all paths of a graph of RTLabs, from what holds at each of its nodes. A value for each node is what a path brings
--- there, and each node has to pass on what its next nodes await.
+-- there, and each node must pass on what its next nodes await.
 use Rattle.std.proofs.Common.{◌≡◌, ◌⊎◌, inl, inr, ℕ, List, [], Some, false, sym, ap, ◌∙◌, if◌then◌else◌}
 use Rattle.std.specs.Prelude.{slice_get}
 use Rattle.cerco_traces.specs.LabelledGraphs.{In}

@@ -8,12 +8,12 @@ abbrev pub AreBytesAtAddresses : List (ℕ × ℕ) → Type 0
 AreBytesAtAddresses [] = Unit {0}
 AreBytesAtAddresses (byte ∷ bytes) = (byte.0 < 65536) × (byte.1 < 256) × AreBytesAtAddresses bytes
 
--- how often a number stands in a list
+-- how often a number is in a list
 abbrev pub times_in : ℕ → List ℕ → ℕ
 times_in l [] = 0
 times_in l (x ∷ xs) = if nat_eq x l then suc (times_in l xs) else times_in l xs
 
--- Each label stands at one place, and the labels are those below some number.
+-- Each label is at one place, and the labels are those below some number.
 pub record AreNumbered (labels : List ℕ) : Type 0 where
   pub number : ℕ
   pub once : (l : ℕ) → l < number → times_in l labels ≡ 1

@@ -39,14 +39,14 @@ pub enum CmCond {
     Test(CmExpr),
     /// The condition is false.
     Not(Box<CmCond>),
-    /// Both are true. The right one is only evaluated where the left one is true. The labels stand after the left one.
+    /// Both are true. The right one is only evaluated where the left one is true. The labels are after the left one.
     Both {
         left: Box<CmCond>,
         on_true: Label,
         on_false: Label,
         right: Box<CmCond>,
     },
-    /// One is true. The right one is only evaluated where the left one is false. The labels stand after the left one.
+    /// One is true. The right one is only evaluated where the left one is false. The labels are after the left one.
     Either {
         left: Box<CmCond>,
         on_true: Label,
@@ -81,7 +81,7 @@ pub enum CmStmt {
     WritePort(CmExpr),
     /// The variable that takes the result, if any, the function, its arguments, and the label after the call.
     Call(Option<u32>, u32, CmArgs, Label),
-    /// The labels stand before the two branches.
+    /// The labels are before the two branches.
     If {
         condition: CmCond,
         on_true: Label,
@@ -89,7 +89,7 @@ pub enum CmStmt {
         on_false: Label,
         false_branch: Box<CmStmt>,
     },
-    /// As long as the condition is true, the body and then the step. No condition is a true one. The label of the body stands before
+    /// As long as the condition is true, the body and then the step. No condition is a true one. The label of the body is before
     /// it, the exit label after the loop.
     Loop {
         condition: Option<CmCond>,
@@ -98,7 +98,7 @@ pub enum CmStmt {
         step: Box<CmStmt>,
         exit_label: Label,
     },
-    /// The body, and again as long as the condition is true. The first label stands on the way back, the second after the loop.
+    /// The body, and again as long as the condition is true. The first label is on the way back, the second after the loop.
     Do {
         body: Box<CmStmt>,
         condition: CmCond,

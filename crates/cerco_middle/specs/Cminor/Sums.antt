@@ -94,7 +94,7 @@ long_length p = start_length p.start + functions_length p.functions p.functions
 
 -- ---- register need
 
--- how many values a stack has to hold at once
+-- how many values are on the evaluation stack at once, at most
 abbrev pub expr_temporaries : CmExpr → ℕ
 expr_temporaries (Const number) = 1
 expr_temporaries (Var x) = 1

@@ -20,7 +20,7 @@ pub data CmExpr : Type 0 where
 pub data CmCond : Type 0 where
   Test : (e : CmExpr) → CmCond
   Not : (c : CmCond) → CmCond
-  -- the labels stand after the left operand, where it is true and where it is false
+  -- the labels are after the left operand, where it is true and where it is false
   Both : (left : CmCond) (on_true on_false : Label) (right : CmCond) → CmCond
   Either : (left : CmCond) (on_true on_false : Label) (right : CmCond) → CmCond
 

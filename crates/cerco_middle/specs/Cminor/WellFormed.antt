@@ -1,4 +1,4 @@
--- Which programs of Cminor are well formed: what they name is there, labels stand once, breaks stand in loops, and calls and returns fit
+-- Which programs of Cminor are well formed: what they name is there, each label is at one place, breaks are in loops, and calls and returns fit
 -- their functions (after the constraints of ISO/IEC 9899:1999, 6.5.2.2 and 6.8.6). Each condition has a name of its own.
 use Rattle.std.specs.Prelude.{◌≡◌, ℕ, ◌<◌, ◌≤◌, List, [], ◌∷◌, length, Option, Some, None, slice_get}
 use Rattle.cerco_middle.specs.declared.operators.Held.{Held}
@@ -101,12 +101,12 @@ MainIsPlain p = (f : CmFunction) → slice_get p.functions p.main ≡ Some f →
 abbrev pub StartsWithBytes : Cminor → Type 0
 StartsWithBytes p = AreBytesAtAddresses p.start
 
-abbrev pub LabelsStandOnce : Cminor → Type 0
-LabelsStandOnce p = AreNumbered (labels_of p.functions)
+abbrev pub LabelsAreNumbered : Cminor → Type 0
+LabelsAreNumbered p = AreNumbered (labels_of p.functions)
 
 -- ---- breaks and continues
 
--- where a statement stands: in no loop, in the body of a loop, or in the step of one
+-- where a statement is: in no loop, in the body of a loop, or in the step of one
 pub data Place : Type 0 where
   NoLoop : Place
   Body : Place
@@ -123,7 +123,7 @@ LeavesLoop NoLoop = ⊥
 LeavesLoop Body = Unit {0}
 LeavesLoop InStep = ⊥
 
--- 6.8.6.2 and 6.8.6.3: breaks and continues stand in the bodies of loops, and in no step
+-- 6.8.6.2 and 6.8.6.3: breaks and continues are in the bodies of loops, and in no step
 abbrev mutual
   pub JumpsLeaveLoops : Place → CmStmt → Type 0
   JumpsLeaveLoops at (Seq statements) = AllLeaveLoops at statements
@@ -138,8 +138,8 @@ abbrev mutual
   AllLeaveLoops at NoStmts = Unit {0}
   AllLeaveLoops at (Then earlier s) = AllLeaveLoops at earlier × JumpsLeaveLoops at s
 
-abbrev pub JumpsStandInLoops : CmFunction → Type 0
-JumpsStandInLoops f = JumpsLeaveLoops NoLoop f.body
+abbrev pub JumpsAreInLoops : CmFunction → Type 0
+JumpsAreInLoops f = JumpsLeaveLoops NoLoop f.body
 
 -- ---- calls and returns
 
@@ -170,7 +170,7 @@ CallsFit p f = OfStmts (CallFits p) f.body
 pub record IsWellFormedFunction (p : Cminor) (f : CmFunction) : Type 0 where
   pub variables_exist : VariablesExist f
   pub parameters_are_few : ParametersAreFew f
-  pub jumps_stand_in_loops : JumpsStandInLoops f
+  pub jumps_are_in_loops : JumpsAreInLoops f
   pub returns_fit : ReturnsFit f
   pub calls_fit : CallsFit p f
 
@@ -178,6 +178,6 @@ pub record IsWellFormed (p : Cminor) : Type 0 where
   pub functions_exist : FunctionsExist p
   pub calls_are_known : CallsAreKnown p
   pub main_is_plain : MainIsPlain p
-  pub labels_stand_once : LabelsStandOnce p
+  pub labels_are_numbered : LabelsAreNumbered p
   pub starts_with_bytes : StartsWithBytes p
   pub functions : OfFunctions p (IsWellFormedFunction p)

@@ -50,7 +50,7 @@ flow_graph f = λ p. option_map node_kind (slice_get f.nodes p)
 abbrev pub next_nodes : RtNode → List ℕ
 next_nodes node = successors (node_kind node)
 
--- ---- what stands in it
+-- ---- its labels and calls
 
 abbrev pub label_at : RtOp → List ℕ → List ℕ
 label_at (op.Label l) more = l.0 ∷ more

@@ -14,7 +14,7 @@ use Rattle.cerco_middle.specs.Operators.{word_bytes, as_word, kept, held_at, hel
 use Rattle.cerco_middle.specs.Calls.{Values, all_zero, first_variables, assigned, returned, is_over}
 use Rattle.cerco_middle.specs.RtLabs.Graphs.{RtFunction, RtLabs}
 
--- an open call: its function, the node before which it stands, and its own values
+-- an open call: its function, the node that it comes to next, and its own values
 pub record RtCall : Type 0 where
   pub of : RtFunction
   pub node : ℕ
@@ -28,7 +28,7 @@ pub record RtState : Type 0 where
   pub result : ℕ
   pub world : World
 
--- a call of f stands before the node p, with these values, above other calls
+-- a call of f comes to the node p next, with these values, above other calls
 abbrev pub at_node : RtFunction → ℕ → Values → Values → List RtCall → Values → ℕ → World → RtState
 at_node f p temporaries variables others slots result world = record {
   calls = (record { of = f; node = p; temporaries = temporaries; variables = variables }) ∷ others;

@@ -1,4 +1,4 @@
--- Which programs of RTLabs are well formed: what they name is there, labels stand once, calls are handed what their functions take,
+-- Which programs of RTLabs are well formed: what they name is there, each label is at one place, calls are handed what their functions take,
 -- results are read where they come, and temporaries are written before they are used (what the RTLabs of CerCo, deliverable 3.3,
 -- asks of its graphs, and what the conventions of calls ask). Each condition has a name of its own.
 use Rattle.std.specs.Prelude.{◌≡◌, ℕ, ◌+◌, ◌<◌, ◌≤◌, List, [], ◌∷◌, ◌++◌, length, Option, Some, None, slice_get, Bool, true, false, Contains, IsPermutation}
@@ -54,8 +54,8 @@ MainIsPlain p = (f : RtFunction) → slice_get p.functions p.main ≡ Some f →
 abbrev pub StartsWithBytes : RtLabs → Type 0
 StartsWithBytes p = AreBytesAtAddresses p.start
 
-abbrev pub LabelsStandOnce : RtLabs → Type 0
-LabelsStandOnce p = AreNumbered (labels_of p.functions)
+abbrev pub LabelsAreNumbered : RtLabs → Type 0
+LabelsAreNumbered p = AreNumbered (labels_of p.functions)
 
 -- ---- where a path ends
 
@@ -135,7 +135,7 @@ ArgumentsAreWithinTwelve f = OfNodes f (λ at node. IsWithinTwelve node.op)
 
 -- ---- results
 
--- The node stands after the label after a call of a function whose result is held so, and no other node leads to it.
+-- The node is directly after the label after a call of a function whose result is held so, and no other node leads to it.
 pub record IsAfterCall (p : RtLabs) (f : RtFunction) (at : ℕ) (h : Held) : Type 0 where
   pub call : ℕ
   pub callee : ℕ
@@ -185,6 +185,6 @@ pub record IsWellFormed (p : RtLabs) : Type 0 where
   pub functions_exist : FunctionsExist p
   pub calls_are_known : CallsAreKnown p
   pub main_is_plain : MainIsPlain p
-  pub labels_stand_once : LabelsStandOnce p
+  pub labels_are_numbered : LabelsAreNumbered p
   pub starts_with_bytes : StartsWithBytes p
   pub functions : OfFunctions p (IsWellFormedFunction p)
