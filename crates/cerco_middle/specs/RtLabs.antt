@@ -1,0 +1,4 @@
+pub mod Graphs
+pub mod Meaning
+pub mod WellFormed
+pub mod Sums
