@@ -1,0 +1,4 @@
+mod Samples
+mod MeaningExamples
+mod LayoutExamples
+mod WellFormedExamples
