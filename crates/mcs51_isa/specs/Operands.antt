@@ -1,6 +1,6 @@
 -- The operands of instructions (Intel, MCS-51 instruction set): the numbers by which an opcode names
 -- its register or page, and where a jump leads.
-use Rattle.std.specs.Prelude.{ℕ, ◌+◌, ◌*◌, ◌/◌, ◌%◌, List, [], ◌∷◌, slice_index_or, nat_lt, if◌then◌else◌}
+use Rattle.std.specs.Prelude.{ℕ, ◌+◌, ◌*◌, ◌/◌, ◌%◌, [], ◌∷◌, slice_index_or, nat_lt, if◌then◌else◌}
 use Rattle.mcs51_isa.specs.declared.operands.Reg.{Reg}
 use Rattle.mcs51_isa.specs.declared.operands.Reg.TheVariants.{R0, R1, R2, R3, R4, R5, R6, R7}
 use Rattle.mcs51_isa.specs.declared.operands.Ind.{Ind}
