@@ -5,15 +5,12 @@ use Rattle.mcs51_isa.specs.declared.instr.Instr.{Instr}
 use Rattle.mcs51_isa.specs.declared.instr.Instr.TheVariants.{Sjmp, Ajmp, Long, BranchFlag}
 use Rattle.mcs51_isa.specs.declared.instr.LongJump.TheVariants.{Ljmp, Lcall}
 use Rattle.mcs51_isa.specs.declared.instr.FlagTest.TheVariants.{Jnz}
+use Rattle.mcs51_isa.specs.Offsets.{offset_to}
 use Rattle.mcs51_isa.specs.Operands.{addr11_of}
 use Rattle.sim51.specs.Placed.{bytes_of}
 use Rattle.asm51.specs.declared.items.AsmItem.{AsmItem}
 use Rattle.asm51.specs.declared.items.AsmItem.TheVariants.{Plain, Jump, Test, Call}
 use Rattle.asm51.specs.declared.layouts.Form.{Form}
-
--- the offset by which a relative jump leads to a target from the next instruction
-abbrev pub offset_to : ℕ → ℕ → ℕ
-offset_to next target = (target + 65536 - next) % 256
 
 -- the instructions of an item that stands at an address and leads to another; a jump or a test without a form has the long one
 abbrev pub instructions : ℕ → ℕ → AsmItem → Option Form → List Instr
