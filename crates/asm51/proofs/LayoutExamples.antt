@@ -1,5 +1,5 @@
 -- Layouts and objects, computed on small programs.
-use Rattle.std.proofs.Common.{◌≡◌, ℕ, ◌+◌, List, [], ◌∷◌, ◌++◌, Some, None, map, take, drop, length, replicate, true, false, refl, lit≤}
+use Rattle.std.proofs.Common.{◌≡◌, ◌+◌, [], ◌∷◌, Some, None, map, take, drop, true, false, refl, lit≤}
 use Rattle.mcs51_isa.specs.declared.instr.Instr.TheVariants.{Nop}
 use Rattle.asm51.specs.declared.items.AsmItem.TheVariants.{Plain, Mark, Enter, Here, Jump, Test, Call}
 use Rattle.asm51.specs.declared.layouts.Form.TheVariants.{Short, Page, Long}

@@ -1,3 +1,7 @@
+pub mod Counting
+pub mod Sizes
+pub mod Rounds
+pub mod Found
 mod Samples
 mod MeaningExamples
 mod LayoutExamples

@@ -1,16 +1,16 @@
 -- The meaning, computed on small programs.
-use Rattle.std.proofs.Common.{◌≡◌, ℕ, List, [], ◌∷◌, ◌++◌, true, false, refl}
+use Rattle.std.proofs.Common.{◌≡◌, ℕ, List, [], ◌∷◌, true, refl}
 use Rattle.cerco_base.specs.declared.events.Port.TheVariants.{P1}
 use Rattle.cerco_base.specs.declared.events.Event.TheVariants.{Read, Write}
 use Rattle.cerco_base.specs.Bytes.{sum_byte}
 use Rattle.cerco_base.specs.Events.{label}
 use Rattle.cerco_traces.specs.Headline.{after}
-use Rattle.mcs51_isa.specs.declared.instr.Instr.TheVariants.{Ret, MovxDptr}
+use Rattle.mcs51_isa.specs.declared.instr.Instr.TheVariants.{MovxDptr}
 use Rattle.mcs51_isa.specs.declared.instr.Move.TheVariants.{FromAcc}
 use Rattle.asm51.specs.declared.items.AsmItem.{AsmItem}
 use Rattle.asm51.specs.declared.items.AsmItem.TheVariants.{Plain, Enter, Jump, Call}
 use Rattle.asm51.specs.Meaning.{AsmState, assembly}
-use Rattle.asm51.proofs.Samples.{start, labelled, return, nothing, countdown}
+use Rattle.asm51.proofs.Samples.{return, nothing, countdown}
 
 -- the state after so many steps
 abbrev run : List AsmItem → List ℕ → ℕ → AsmState

@@ -1,6 +1,5 @@
 -- Small assembly programs, by which the definitions are tried.
 use Rattle.std.specs.Prelude.{ℕ, List, [], ◌∷◌, ◌++◌, replicate}
-use Rattle.cerco_base.specs.declared.events.Label.{Label}
 use Rattle.mcs51_isa.specs.declared.operands.Reg.TheVariants.{R2}
 use Rattle.mcs51_isa.specs.declared.instr.Instr.TheVariants.{Nop, Ret, Sjmp, ArithImmediate, MovDirectImmediate, MovDptr, MovDirect, MovRegister}
 use Rattle.mcs51_isa.specs.declared.instr.ReturnKind.TheVariants.{FromCall}

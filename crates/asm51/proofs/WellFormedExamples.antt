@@ -1,10 +1,10 @@
 -- The conditions on items: a program that meets them all, and one for each condition that doesn't meet it.
-use Rattle.std.proofs.Common.{◌≡◌, ℕ, ◌^◌, ◌<◌, List, [], ◌∷◌, ◌++◌, length, replicate, refl, lit≤, arith}
+use Rattle.std.proofs.Common.{◌≡◌, ◌^◌, List, [], ◌∷◌, ◌++◌, length, lit≤, arith}
 use Rattle.mcs51_isa.specs.declared.instr.Instr.TheVariants.{Nop}
 use Rattle.asm51.specs.declared.items.AsmItem.{AsmItem}
 use Rattle.asm51.specs.declared.items.AsmItem.TheVariants.{Plain, Mark, Enter, Here, Jump, Test, Call}
 use Rattle.asm51.specs.WellFormed.{JumpsHavePlaces, TestsHavePlaces, CallsHaveEntries, LabelsStandOnce, LabelsAreBelow, MarksHaveNops, AreFewItems, IsWellFormed}
-use Rattle.asm51.proofs.Samples.{labelled, return, nothing, countdown, over_150, at_a_page}
+use Rattle.asm51.proofs.Samples.{labelled, return, countdown}
 
 well_formed : IsWellFormed (Jump 0 1 ∷ countdown)
 well_formed =

@@ -9,7 +9,7 @@ use Rattle.asm51.specs.Items.{is_mark_of, mark_count, place, target_of}
 use Rattle.asm51.specs.Instructions.{instructions}
 use Rattle.asm51.specs.Layouts.{first_form, address}
 
--- the address of an item as a word: the end of the last byte of code memory is address 0
+-- the address of an item as a word: past the end of code memory addresses begin at 0 again
 abbrev pub word_address : List AsmItem → List (Option Form) → ℕ → ℕ
 word_address items forms k = address items forms k % 65536
 

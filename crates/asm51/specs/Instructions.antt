@@ -1,6 +1,6 @@
 -- The instructions that an item of an assembly program stands for in each form (Intel, MCS-51 family: SJMP, AJMP, LJMP, LCALL, JNZ; that a
 -- far test is a JNZ over an SJMP to an LJMP, so that it costs the same whichever way it goes, is this project's own).
-use Rattle.std.specs.Prelude.{ℕ, ◌+◌, ◌-◌, ◌%◌, List, [], ◌∷◌, Option, Some}
+use Rattle.std.specs.Prelude.{ℕ, ◌+◌, List, [], ◌∷◌, Option, Some}
 use Rattle.mcs51_isa.specs.declared.instr.Instr.{Instr}
 use Rattle.mcs51_isa.specs.declared.instr.Instr.TheVariants.{Sjmp, Ajmp, Long, BranchFlag}
 use Rattle.mcs51_isa.specs.declared.instr.LongJump.TheVariants.{Ljmp, Lcall}

@@ -4,4 +4,7 @@ pub mod Instructions
 pub mod Layouts
 pub mod Relaxation
 pub mod Emission
+pub mod JumpLayouts
 pub mod WellFormed
+pub mod Places
+pub mod Laws

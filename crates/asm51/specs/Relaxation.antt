@@ -4,7 +4,7 @@
 -- jump into the page of its target).
 use Rattle.std.specs.Prelude.{◌≡◌, ℕ, zero, suc, ◌+◌, ◌*◌, ◌/◌, ◌≤◌, List, [], ◌∷◌, drop, Option, Some, None, Bool, true, false, if◌then◌else◌, ◌&&◌, nat_eq, nat_le}
 use Rattle.asm51.specs.declared.items.AsmItem.{AsmItem}
-use Rattle.asm51.specs.declared.items.AsmItem.TheVariants.{Test}
+use Rattle.asm51.specs.declared.items.AsmItem.TheVariants.{Jump, Test}
 use Rattle.asm51.specs.declared.layouts.Form.{Form}
 use Rattle.asm51.specs.Items.{target_of, jump_count}
 use Rattle.asm51.specs.Layouts.{first_form, address, all_in}
@@ -17,12 +17,14 @@ is_near next target = nat_le next (target + 128) && nat_le target (next + 127)
 abbrev pub same_page : ℕ → ℕ → Bool
 same_page next target = nat_eq (next / 2048) (target / 2048)
 
--- whether an item reaches its target in a form, where the instruction after the shorter forms stands at `next`; a test has no page form
+-- whether an item reaches its target in a form, where the instruction after the shorter forms stands at `next`: a test has no page
+-- form, the long form always reaches, and so does what is no jump
 abbrev pub reaches : ℕ → ℕ → AsmItem → Form → Bool
-reaches next target item Form.Short = is_near next target
+reaches next target (Jump f n) Form.Short = is_near next target
+reaches next target (Jump f n) Form.Page = same_page next target
+reaches next target (Test f n) Form.Short = is_near next target
 reaches next target (Test f n) Form.Page = false
-reaches next target item Form.Page = same_page next target
-reaches next target item Form.Long = true
+reaches next target item form = true
 
 -- the first of the forms from this one on that reaches
 abbrev pub least_from : (Form → Bool) → Form → Form

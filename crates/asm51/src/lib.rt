@@ -3,6 +3,7 @@
 #![tactic(auto)]
 
 pub mod items;
+pub mod laws;
 pub mod layouts;
 pub mod lists;
 

@@ -1,9 +1,7 @@
-//! The lists that a layout has.
-ghost use Rattle.std.specs.Prelude.{◌≡◌, ◌++◌, ◌∷◌, [], OnOk, OnErr};
+//! The lists of a layout.
+ghost use Rattle.std.specs.Prelude.{◌≡◌};
 
 use crate::layouts::Form;
-use cerco_base::NoMemory;
-use std::alloc::Global;
 use std::marker::Model;
 
 /// The form of each item, where it has one. Contracts see it as the list of the forms.
@@ -22,22 +20,11 @@ impl Model for FormList {
 }
 
 impl FormList {
-    /// No forms.
-    pub fn new(alloc: Global) -> FormList
-        ensures { result ≡ [] }
+    /// The list of these forms.
+    pub fn of(forms: Vec<Option<Form>>) -> FormList
+        ensures { result ≡ forms.items }
     {
-        FormList {
-            forms: Vec::new(alloc),
-        }
-    }
-
-    /// Adds the form of the next item. When out of memory, the list is unchanged.
-    pub fn push(&mut self, form: Option<Form>) -> Result<(), NoMemory>
-        ensures added { OnOk result (self.new ≡ self.old ++ form ∷ []) }
-        ensures same { OnErr result (self.new ≡ self.old) }
-    {
-        self.forms.push(form)?;
-        Ok(())
+        FormList { forms }
     }
 
     /// Its forms.
@@ -63,22 +50,11 @@ impl Model for NumberList {
 }
 
 impl NumberList {
-    /// No numbers.
-    pub fn new(alloc: Global) -> NumberList
-        ensures { result ≡ [] }
+    /// The list of these numbers.
+    pub fn of(numbers: Vec<u32>) -> NumberList
+        ensures { result ≡ numbers.items }
     {
-        NumberList {
-            numbers: Vec::new(alloc),
-        }
-    }
-
-    /// Adds the number of the next item. When out of memory, the list is unchanged.
-    pub fn push(&mut self, number: u32) -> Result<(), NoMemory>
-        ensures added { OnOk result (self.new ≡ self.old ++ number ∷ []) }
-        ensures same { OnErr result (self.new ≡ self.old) }
-    {
-        self.numbers.push(number)?;
-        Ok(())
+        NumberList { numbers }
     }
 
     /// Its numbers.
