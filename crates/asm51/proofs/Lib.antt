@@ -1,5 +1,6 @@
 pub mod Counting
 pub mod Sizes
+pub mod Addresses
 pub mod Rounds
 pub mod Found
 mod Samples
