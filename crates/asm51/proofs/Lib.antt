@@ -2,6 +2,7 @@ pub mod Counting
 pub mod Sizes
 pub mod Addresses
 pub mod Rounds
+pub mod Readings
 pub mod Found
 mod Samples
 mod MeaningExamples
