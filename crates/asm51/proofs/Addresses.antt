@@ -1,5 +1,5 @@
 -- The addresses of items: each stands after the one before it, and when one takes another form those after it move.
-use Rattle.std.proofs.Common.{◌≡◌, ℕ, zero, suc, ◌+◌, ◌*◌, ◌<◌, ◌≤◌, List, [], ◌∷◌, Option, Some, None, refl, ap, arith, lit≤, length, drop, set, slice_index_or}
+use Rattle.std.proofs.Common.{◌≡◌, ℕ, zero, suc, ◌+◌, ◌*◌, ◌<◌, ◌≤◌, List, [], ◌∷◌, Option, Some, None, refl, ap, ◌∙◌, arith, lit≤, length, drop, set, slice_index_or}
 use Rattle.mcs51_isa.specs.declared.instr.Instr.TheVariants.{Nop}
 use Rattle.mcs51_isa.proofs.Bounds.{size_bounds}
 use Rattle.asm51.specs.declared.items.AsmItem.{AsmItem}
@@ -49,10 +49,16 @@ address_end items forms zero = omega arith
 address_end [] forms (suc k) = omega arith
 address_end (item ∷ items) forms (suc k) = omega (arith, address_end items (drop 1 forms) k)
 
-pub address_suc : (items : List AsmItem) (forms : List (Option Form)) (k : ℕ) → k < length items → address items forms (suc k) ≡ address items forms k + item_size (item_at items k) (form_at forms k)
+address_suc : (items : List AsmItem) (forms : List (Option Form)) (k : ℕ) → k < length items → address items forms (suc k) ≡ address items forms k + item_size (item_at items k) (form_at forms k)
 address_suc [] forms k h = absurd (omega arith)
 address_suc (item ∷ items) forms zero h = omega (arith, ap (item_size item) (first_form_at forms))
 address_suc (item ∷ items) forms (suc k) h = omega (arith, address_suc items (drop 1 forms) k (omega arith), ap (item_size (item_at items k)) (next_form_at forms k))
+
+-- the next item stands after an item's bytes
+pub address_next : (items : List AsmItem) (forms : List (Option Form)) (k : ℕ) → k < length items → address items forms (k + 1) ≡ address items forms k + item_size (item_at items k) (form_at forms k)
+address_next items forms k h =
+    let s : k + 1 ≡ suc k = omega arith in
+    ap (address items forms) s ∙ address_suc items forms k h
 
 -- item k takes another form: items up to it stay
 pub set_before : (items : List AsmItem) (forms : List (Option Form)) (k : ℕ) (form : Option Form) (i : ℕ) → i ≤ k → address items (set forms k form) i ≡ address items forms i

@@ -27,10 +27,11 @@ map_push f [] y = refl
 map_push f (x ∷ xs) y = ap (λ ys. f x ∷ ys) (map_push f xs y)
 
 -- one more element of a list by number
-pub range_more : {X : Type 0} (f : ℕ → X) (n : ℕ) → map f (range_with_len 0 (suc n)) ≡ map f (range_with_len 0 n) ++ f n ∷ []
+pub range_more : {X : Type 0} (f : ℕ → X) (n : ℕ) → map f (range_with_len 0 (n + 1)) ≡ map f (range_with_len 0 n) ++ f n ∷ []
 range_more f n =
+    let s : n + 1 ≡ suc n = omega arith in
     let z : 0 + n ≡ n = omega arith in
-    ap (map f) (range_push 0 n) ∙ map_push f (range_with_len 0 n) (0 + n) ∙ ap (λ m. map f (range_with_len 0 n) ++ f m ∷ []) z
+    ap (λ m. map f (range_with_len 0 m)) s ∙ ap (map f) (range_push 0 n) ∙ map_push f (range_with_len 0 n) (0 + n) ∙ ap (λ m. map f (range_with_len 0 n) ++ f m ∷ []) z
 
 pub address_read : (items : List AsmItem) (forms : List (Option Form)) (k : ℕ) → k ≤ length items → slice_index (addresses_of items forms) k ≡ address items forms k
 address_read items forms k h = get_or-map-range_with_len (address items forms) 0 (length items + 1) k k 0 (omega arith) (omega arith)
