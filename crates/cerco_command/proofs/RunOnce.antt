@@ -11,7 +11,8 @@ use Rattle.cerco_command.specs.Messages.{event_line}
 use Rattle.cerco_command.specs.Once.{ReachesReserved, StopsOnce}
 use Rattle.cerco_command.specs.declared.status.Status.{Status}
 use Rattle.cerco_command.specs.declared.status.Status.TheVariants as Is
-use Rattle.cerco_command.proofs.RunSteps.{after_last, begun_run, step_cycles, stops_somewhere}
+use Rattle.sim51.proofs.Leads.{step_cycles}
+use Rattle.cerco_command.proofs.RunSteps.{after_last, begun_run, stops_somewhere}
 
 -- a machine that goes on doesn't stop
 not_both : (limit : ℕ) (s : State) (v : Moved) (status : Status) (line : List ℕ) → GoesOn limit s v → Stops limit s v status line → ⊥

@@ -1,5 +1,5 @@
 -- How a run goes on, where it stops, and that it stops.
-use Rattle.std.proofs.Common.{◌≡◌, ℕ, zero, suc, ◌+◌, ◌-◌, ◌<◌, ◌≤◌, List, [], ◌∷◌, ◌++◌, length, map, Option, Some, None, Bool, true, false, cond, Err, refl, sym, ap, subst, ◌∙◌, arith, inl, inr, ◌⊎◌, append_assoc, below_more, lit≤, length-append}
+use Rattle.std.proofs.Common.{◌≡◌, ℕ, zero, suc, ◌+◌, ◌-◌, ◌<◌, ◌≤◌, List, [], ◌∷◌, ◌++◌, length, map, Some, None, Err, refl, sym, ap, subst, ◌∙◌, arith, inl, inr, ◌⊎◌, append_assoc, below_more, length-append}
 use Rattle.std.specs.List.{flat_map}
 use Rattle.std.proofs.lemmas.Bool.{cases_lt}
 use Rattle.std.proofs.lemmas.List.Concat.{flat_map-append}
@@ -10,14 +10,12 @@ use Rattle.cerco_traces.specs.Headline.{after}
 use Rattle.cerco_traces.specs.Systems.{System}
 use Rattle.cerco_base.specs.declared.outside.faults.IoFault.{IoFault}
 use Rattle.cerco_base.proofs.Putting.{SoFar, begun}
-use Rattle.mcs51_isa.specs.declared.instr.Instr.{Instr}
-use Rattle.mcs51_isa.specs.declared.instr.Instr.TheVariants.{Nop}
-use Rattle.mcs51_isa.specs.Table.{cycles_of}
 use Rattle.sim51.specs.declared.events.Events.{Events}
 use Rattle.sim51.specs.State.{State, reset}
-use Rattle.sim51.specs.Step.{Moved, Halts, Reserved, Goes, instr_at, halts, made, moved_by, step}
+use Rattle.sim51.specs.Step.{Moved, Halts, Reserved, Goes, step}
 use Rattle.sim51.specs.Runs.{Running, object, events_of, advanced, Setup, setup_of, TimedEvent, made_by, state_after, step_after, trace}
 use Rattle.sim51.specs.State.{LoadedMachine}
+use Rattle.sim51.proofs.Leads.{step_cycles}
 use Rattle.cerco_command.specs.Answers.{Says, Answers}
 use Rattle.cerco_command.specs.Messages.{event_line, event_lines, end_line, stop_line, reserved_line}
 use Rattle.cerco_command.specs.Running.{GoesOn, Stops, RunsTo}
@@ -26,31 +24,6 @@ use Rattle.cerco_command.specs.Status.{status_of}
 use Rattle.cerco_command.specs.declared.status.Status.{Status}
 use Rattle.cerco_command.specs.declared.status.Status.TheVariants as Is
 use Rattle.cerco_command.proofs.Answering.{answered, says_rest, no_memory, pending_cut, front_put, so_far_more}
-
--- an instruction takes from one cycle to four
-cycle_bounds : (i : Instr) → (1 ≤ cycles_of i) × (cycles_of i ≤ 4)
-cycle_bounds Nop = (lit≤ tt, lit≤ tt)
-cycle_bounds _ = (lit≤ tt, lit≤ tt)
-
-cycles_in : ℕ → Moved → ℕ
-cycles_in other Halts = other
-cycles_in other Reserved = other
-cycles_in other (Goes e t) = t.cycles
-
--- a step takes from one cycle to four
-pub step_cycles : (code labels : List ℕ) (s : State) (e : Events) (t : State) → step code labels s ≡ Goes e t → (s.cycles < t.cycles) × (t.cycles ≤ s.cycles + 4)
-unfolding step cycles_in
-step_cycles code labels s e t h = by_instr (instr_at code s.pc) h
-  where
-    by_halt : (i : Instr) (b : Bool) → cond b Halts (made code labels i s) ≡ Goes e t → (s.cycles < t.cycles) × (t.cycles ≤ s.cycles + 4)
-    by_halt i true g = absurd cc
-    by_halt i false g =
-        let took : s.cycles + cycles_of i ≡ t.cycles = ap (cycles_in 0) g in
-        let least = (cycle_bounds i).0 in let most = (cycle_bounds i).1 in (omega arith, omega arith)
-
-    by_instr : (o : Option Instr) → moved_by code labels o s ≡ Goes e t → (s.cycles < t.cycles) × (t.cycles ≤ s.cycles + 4)
-    by_instr None g = absurd cc
-    by_instr (Some i) g = by_halt i (halts i s.pc) g
 
 pub after_last : {M : Type 0} (X : System M) (k : ℕ) (s : M) → after X (suc k) s ≡ X.step (after X k s)
 after_last X zero s = refl

@@ -1,18 +1,14 @@
 -- Instructions whose bytes stand in the code are what is read there.
-use Rattle.std.proofs.Common.{◌≡◌, ℕ, zero, suc, ◌+◌, ◌<◌, ◌≤◌, List, [], ◌∷◌, ◌++◌, Some, refl, sym, ap, ap₂, ◌∙◌, arith, subst, length, get_or, append_assoc, length-append, lit≤, mod-eq_of_lt, get_or-append-add}
+use Rattle.std.proofs.Common.{◌≡◌, ℕ, zero, suc, ◌+◌, ◌<◌, ◌≤◌, List, [], ◌∷◌, ◌++◌, Some, refl, sym, ap, ap₂, ◌∙◌, arith, subst, length, get_or, append_assoc, length-append, mod-eq_of_lt, get_or-append-add}
 use Rattle.std.proofs.lemmas.List.{get_or_append_left}
 use Rattle.mcs51_isa.specs.declared.instr.Instr.{Instr}
-use Rattle.mcs51_isa.specs.declared.instr.Instr.TheVariants.{Nop}
 use Rattle.mcs51_isa.specs.Table.{encode_of}
 use Rattle.mcs51_isa.specs.Decoding.{decode_of}
 use Rattle.mcs51_isa.proofs.Inverse.{decode_encode}
+use Rattle.mcs51_isa.proofs.Bounds.{size_bounds}
 use Rattle.sim51.specs.Effect.{code_at}
 use Rattle.sim51.specs.Step.{instr_at, size}
 use Rattle.sim51.specs.Placed.{code_of_instrs, bytes_of, Stands}
-
-pub size_positive : (i : Instr) → 1 ≤ size i
-size_positive Nop = lit≤ tt
-size_positive _ = lit≤ tt
 
 -- a read past the end gives the default
 filled : (l : List ℕ) (k v : ℕ) → (k < length l → v ≡ get_or l k 0) → v ≡ get_or l k v
@@ -36,7 +32,7 @@ instr_there i before behind fits =
     let a = length before in
     let x = code_at code (a + 1) in
     let y = code_at code (a + 2) in
-    let b0 : code_at code a ≡ get_or (encode_of i) 0 0 = ap (code_at code) (omega arith) ∙ byte_there i before behind 0 fits (size_positive i) in
+    let b0 : code_at code a ≡ get_or (encode_of i) 0 0 = ap (code_at code) (omega arith) ∙ byte_there i before behind 0 fits (size_bounds i).0 in
     let b1 : x ≡ get_or (encode_of i) 1 x = filled (encode_of i) 1 x (λ lt. byte_there i before behind 1 fits lt) in
     let b2 : y ≡ get_or (encode_of i) 2 y = filled (encode_of i) 2 y (λ lt. byte_there i before behind 2 fits lt) in
     ap (λ b. decode_of b x y) b0 ∙ ap₂ (λ p q. decode_of (get_or (encode_of i) 0 0) p q) b1 b2 ∙ decode_encode i x y

@@ -5,3 +5,6 @@ pub mod Step
 pub mod Runs
 pub mod Code
 pub mod Placed
+pub mod Straight
+pub mod StackApart
+pub mod Valid

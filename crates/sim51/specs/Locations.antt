@@ -1,9 +1,11 @@
 -- Bits, the program status word, what direct addresses and bit addresses name, registers and the stack (Intel, MCS-51 family:
 -- memory organization, special function registers, direct and indirect addressing).
-use Rattle.std.specs.Prelude.{ℕ, ◌+◌, ◌*◌, ◌/◌, ◌%◌, ◌-◌, ◌^◌, List, [], ◌∷◌, Option, Some, None, Bool, true, false, if◌then◌else◌, nat_eq, nat_lt, slice_index, slice_set, drop, count_ones, bit_or, bit_and}
+use Rattle.std.specs.Prelude.{ℕ, ◌+◌, ◌*◌, ◌/◌, ◌%◌, ◌-◌, ◌^◌, Option, Some, None, Bool, true, false, if◌then◌else◌, nat_eq, nat_lt, slice_index, slice_set, drop, count_ones, bit_or, bit_and}
 use Rattle.cerco_base.specs.declared.events.Port.{Port}
 use Rattle.cerco_base.specs.declared.events.Port.TheVariants.{P0, P1, P2, P3}
 use Rattle.cerco_base.specs.Bytes.{bit_value}
+use Rattle.cerco_base.specs.Events.{next_reading}
+pub use Rattle.cerco_base.specs.Events.{next_reading as pins}
 use Rattle.cerco_base.specs.Ports.{port_number}
 use Rattle.mcs51_isa.specs.declared.operands.Reg.{Reg}
 use Rattle.mcs51_isa.specs.declared.operands.Ind.{Ind}
@@ -76,15 +78,10 @@ held c Dpl = c.dpl
 held c Dph = c.dph
 held c (Other a) = slice_index c.rest (a % 128)
 
--- the byte that the pins of a port show: the next one of the script, and FFH past its end
-abbrev pub pins : List ℕ → ℕ
-pins [] = 255
-pins (byte ∷ bytes) = byte
-
 -- A read of a location shows what is held there, but at a port it shows the pins: the byte that is read, what is held after it, and
 -- its event.
 abbrev pub read_value : Core → Location → ℕ
-read_value c (Latch p) = pins c.script
+read_value c (Latch p) = next_reading c.script
 read_value c l = held c l
 
 abbrev pub after_read : Core → Location → Core
@@ -92,7 +89,7 @@ after_read c (Latch p) = record c { script = drop 1 c.script }
 after_read c l = c
 
 abbrev pub read_event : Core → Location → Option (Port × ℕ)
-read_event c (Latch p) = Some (p, pins c.script)
+read_event c (Latch p) = Some (p, next_reading c.script)
 read_event c l = None
 
 -- A write to a location: what is held after it, and its event, which a port alone makes.

@@ -1,0 +1,127 @@
+//! Jumps, calls and returns.
+
+use crate::programs::{check_flags, check_memory, finish, sparse};
+use std::test::Fail;
+
+const BRANCHES: &[(&str, &[u8], u8, u8)] = &[
+    (
+        "MOV A,#34H; CJNE A,#60H,7; MOV A,#0",
+        &[0x74, 0x34, 0xB4, 0x60, 0x02, 0x74, 0x00],
+        0x34,
+        0x81,
+    ),
+    (
+        "MOV A,#60H; CJNE A,#60H,7; MOV A,#11H",
+        &[0x74, 0x60, 0xB4, 0x60, 0x02, 0x74, 0x11],
+        0x11,
+        0x00,
+    ),
+    (
+        "MOV R0,#40H; MOV 40H,#70H; CJNE @R0,#60H,0AH; MOV A,#11H",
+        &[0x78, 0x40, 0x75, 0x40, 0x70, 0xB6, 0x60, 0x02, 0x74, 0x11],
+        0x00,
+        0x00,
+    ),
+    (
+        "MOV R7,#50H; CJNE R7,#60H,7; MOV A,#11H",
+        &[0x7F, 0x50, 0xBF, 0x60, 0x02, 0x74, 0x11],
+        0x00,
+        0x80,
+    ),
+    (
+        "MOV R2,#8; INC A; DJNZ R2,2",
+        &[0x7A, 0x08, 0x04, 0xDA, 0xFD],
+        0x08,
+        0x01,
+    ),
+    (
+        "SETB C; JC 5; MOV A,#11H",
+        &[0xD3, 0x40, 0x02, 0x74, 0x11],
+        0x00,
+        0x80,
+    ),
+    (
+        "SETB C; JNC 5; MOV A,#11H",
+        &[0xD3, 0x50, 0x02, 0x74, 0x11],
+        0x11,
+        0x80,
+    ),
+    ("JZ 4; MOV A,#11H", &[0x60, 0x02, 0x74, 0x11], 0x00, 0x00),
+    ("JNZ 4; MOV A,#11H", &[0x70, 0x02, 0x74, 0x11], 0x11, 0x00),
+    (
+        "LJMP 5; MOV A,#11H",
+        &[0x02, 0x00, 0x05, 0x74, 0x11],
+        0x00,
+        0x00,
+    ),
+    (
+        "MOV DPTR,#6; MOV A,#2; JMP @A+DPTR; MOV A,#11H",
+        &[0x90, 0x00, 0x06, 0x74, 0x02, 0x73, 0x74, 0x11],
+        0x02,
+        0x01,
+    ),
+    (
+        "MOV A,#56H; JBC ACC.3,8; JBC ACC.2,0AH; MOV A,#0",
+        &[0x74, 0x56, 0x10, 0xE3, 0x03, 0x10, 0xE2, 0x02, 0x74, 0x00],
+        0x52,
+        0x01,
+    ),
+    (
+        "MOV A,#56H; JB ACC.3,8; JB ACC.2,0AH; MOV A,#0",
+        &[0x74, 0x56, 0x20, 0xE3, 0x03, 0x20, 0xE2, 0x02, 0x74, 0x00],
+        0x56,
+        0x00,
+    ),
+    (
+        "MOV A,#56H; JNB ACC.2,8; JNB ACC.3,0AH; MOV A,#0",
+        &[0x74, 0x56, 0x30, 0xE2, 0x03, 0x30, 0xE3, 0x02, 0x74, 0x00],
+        0x56,
+        0x00,
+    ),
+];
+
+const PLACES: &[(&str, &[u8], &[(u8, u8)])] = &[
+    (
+        "MOV 40H,#1; MOV 50H,#70H; DJNZ 40H,0CH; DJNZ 50H,0EH; MOV A,#11H",
+        &[
+            0x75, 0x40, 0x01, 0x75, 0x50, 0x70, 0xD5, 0x40, 0x03, 0xD5, 0x50, 0x02, 0x74, 0x11,
+        ],
+        &[(0x40, 0x00), (0x50, 0x6F), (0x60, 0x00)],
+    ),
+    // the high byte of the address to return to is popped first
+    (
+        "MOV 0AH,#0CH; MOV 0BH,#0; MOV SP,#0BH; RET; MOV A,#11H; MOV 62H,SP",
+        &[
+            0x75, 0x0A, 0x0C, 0x75, 0x0B, 0x00, 0x75, 0x81, 0x0B, 0x22, 0x74, 0x11, 0x85, 0x81,
+            0x62,
+        ],
+        &[(0x60, 0x00), (0x62, 0x09)],
+    ),
+    (
+        "ACALL 4; SJMP 6; INC A; RETI",
+        &[0x11, 0x04, 0x80, 0x02, 0x04, 0x32],
+        &[(0x60, 0x01), (0x08, 0x02), (0x09, 0x00)],
+    ),
+];
+
+#[test]
+fn jumps_lead_to_their_targets(rt: HostRuntime) -> Result<(), Fail> {
+    check_flags(&rt, rt.alloc(), BRANCHES)?;
+    check_memory(&rt, rt.alloc(), PLACES)
+}
+
+// AJMP keeps the top five bits of the next instruction's address, which here lies in the next 2,048 bytes.
+#[test]
+fn short_jumps_keep_the_block_of_the_next_instruction(rt: HostRuntime) -> Result<(), Fail> {
+    // LJMP 07FEH; there AJMP to 010H of its block; then MOV A,#11H
+    let program = sparse(
+        &rt,
+        rt.alloc(),
+        0x810,
+        &[(0, &[0x02, 0x07, 0xFE]), (0x7FE, &[0x01, 0x10, 0x74, 0x11])],
+    )?;
+    let (machine, _) = finish(&rt, rt.alloc(), &program, &[])?;
+    assert_eq!(rt; machine.iram(0x60), 0);
+    assert_eq!(rt; machine.pc(), 0x815);
+    Ok(())
+}
