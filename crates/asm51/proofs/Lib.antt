@@ -4,6 +4,7 @@ pub mod Addresses
 pub mod Rounds
 pub mod Readings
 pub mod Found
+pub mod StraightCode
 mod Samples
 mod MeaningExamples
 mod LayoutExamples

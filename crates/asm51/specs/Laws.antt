@@ -1,10 +1,15 @@
--- Laws of the assembly language (own): what well formed items give, and what relaxation comes to.
-use Rattle.std.specs.Prelude.{◌≡◌, ℕ, ◌+◌, ◌≤◌, List, slice_get, Option, Some, true}
+-- Laws of the assembly language (own): what well formed items give, what relaxation comes to, and that straight-line code runs through.
+use Rattle.std.specs.Prelude.{◌≡◌, ℕ, ◌+◌, ◌≤◌, List, length, slice_get, Option, Some, true}
+use Rattle.cerco_traces.specs.Systems.{EachWithin, Run}
+use Rattle.mcs51_isa.specs.declared.instr.Instr.{Instr}
+use Rattle.sim51.specs.Straight.{AreStraight}
 use Rattle.asm51.specs.declared.items.AsmItem.{AsmItem}
 use Rattle.asm51.specs.declared.layouts.Form.{Form}
 use Rattle.asm51.specs.Items.{target_of}
 use Rattle.asm51.specs.Layouts.{address, code_length, all_in, long_length}
 use Rattle.asm51.specs.Relaxation.{reaches, round, IsRelaxed}
+use Rattle.asm51.specs.Meaning.{AsmState, counted, assembly}
+use Rattle.asm51.specs.StraightCode.{StandAt, touched_by, passed}
 use Rattle.asm51.specs.WellFormed.{IsWellFormed}
 use Rattle.asm51.specs.Places.{HasTargets, HasLabels}
 
@@ -30,3 +35,10 @@ LongIsLongest = (items : List AsmItem) (forms : List (Option Form)) → code_len
 
 abbrev pub LongStays : Type 0
 LongStays = (items : List AsmItem) → round items (all_in Form.Long items) ≡ all_in Form.Long items
+
+-- From a place on at which it stands, straight-line code runs to its end, if the bytes that it touches are within the bounds. No call
+-- is opened or closed.
+abbrev pub StraightCodeRuns : Type 0
+StraightCodeRuns =
+    (items : List AsmItem) (d : ℕ) (is : List Instr) (s : AsmState) → StandAt items s.at is → AreStraight is
+    → EachWithin d (counted s.returns (touched_by is s.core)) → length s.returns ≤ 64 → Run (assembly items) d s (passed is s)

@@ -7,4 +7,5 @@ pub mod Emission
 pub mod JumpLayouts
 pub mod WellFormed
 pub mod Places
+pub mod StraightCode
 pub mod Laws

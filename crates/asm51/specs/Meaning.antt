@@ -79,10 +79,10 @@ item_touches (Some (Plain (MovxDptr move))) c = dptr c ∷ []
 item_touches (Some (Plain (MovxIndirect move pointer))) c = external_pointer c pointer ∷ []
 item_touches item c = []
 
--- What a step touches. What runs while no call is open is the start of the program, and its writes aren't counted.
-abbrev pub touches : List ℕ → Option AsmItem → Core → List ℕ
-touches [] item c = []
-touches (k ∷ ks) item c = item_touches item c
+-- Which bytes count: what runs while no call is open is the start of the program, and its writes aren't counted.
+abbrev pub counted : List ℕ → List ℕ → List ℕ
+counted [] bytes = []
+counted (k ∷ ks) bytes = bytes
 
 -- The runs of these items. They begin at the first one, in a machine that was reset; they stand before a label at its mark.
 abbrev pub assembly : List AsmItem → System AsmState
@@ -93,6 +93,6 @@ assembly items =
       events = λ s. s.made;
       due = λ s. passes is_mark (slice_get items s.at);
       ended = λ s. passes is_end (slice_get items s.at);
-      touched = λ s. touches s.returns (slice_get items s.at) s.core;
+      touched = λ s. counted s.returns (item_touches (slice_get items s.at) s.core);
       opened = λ s. length s.returns;
     }

@@ -1,5 +1,5 @@
 //! Laws of the assembly language. Each function does nothing, and ensures a law.
-ghost use Rattle.asm51.specs.Laws.{TargetsAreFound, LabelsAreMarked, OneIsRelaxed, RelaxedReaches, LongIsLongest, LongStays};
+ghost use Rattle.asm51.specs.Laws.{TargetsAreFound, LabelsAreMarked, OneIsRelaxed, RelaxedReaches, LongIsLongest, LongStays, StraightCodeRuns};
 
 /// In well formed items each jump, test and call leads to what it names.
 pub fn targets_are_found()
@@ -29,4 +29,9 @@ pub fn long_is_longest()
 /// In the layout with long jumps no jump grows.
 pub fn long_stays()
     ensures { LongStays }
+{}
+
+/// Straight-line code runs to its end.
+pub fn straight_code_runs()
+    ensures { StraightCodeRuns }
 {}
