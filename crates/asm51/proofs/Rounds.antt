@@ -1,12 +1,12 @@
 -- What a round changes, and that rounds come to one layout that stays.
-use Rattle.std.proofs.Common.{◌≡◌, ℕ, zero, suc, ◌+◌, ◌*◌, ◌<◌, ◌≤◌, List, [], ◌∷◌, Option, Some, None, Bool, true, false, cond, if◌then◌else◌, ◌⊎◌, inl, inr, refl, sym, ap, ap₂, ◌∙◌, arith, lit≤, length, drop, slice_get}
+use Rattle.std.proofs.Common.{◌≡◌, ℕ, zero, suc, ◌+◌, ◌*◌, ◌<◌, ◌≤◌, List, [], ◌∷◌, Option, Some, None, Bool, true, false, cond, if◌then◌else◌, ◌⊎◌, inl, inr, refl, sym, ap, ap₂, ◌∙◌, arith, lit≤, length, map, drop, slice_get, is_some}
 use Rattle.asm51.specs.declared.items.AsmItem.{AsmItem}
 use Rattle.asm51.specs.declared.items.AsmItem.TheVariants.{Plain, Mark, Enter, Here, Jump, Test, Call}
 use Rattle.asm51.specs.declared.layouts.Form.{Form}
 use Rattle.asm51.specs.Items.{target_of, is_jump, jump_count}
 use Rattle.asm51.specs.Layouts.{first_form, address, all_in}
 use Rattle.asm51.specs.Relaxation.{is_near, same_page, reaches, least_from, grown, round_from, round, rounds, IsRelaxed}
-use Rattle.asm51.specs.Laws.{OneIsRelaxed, RelaxedReaches, LongStays}
+use Rattle.asm51.specs.Laws.{OneIsRelaxed, RelaxedReaches, FormsAreOfJumps, LongStays}
 use Rattle.asm51.proofs.Counting.{count_more}
 
 -- the place of a form in the order in which forms grow
@@ -97,6 +97,14 @@ module _ (at : ℕ → ℕ) (target : AsmItem → ℕ) where
       by new (grows jump h) news (inl more) = inr (omega (arith, ap (score items) more, ap (λ b. cond b (rank form) 0) jump, ap (λ b. cond b (rank new) 0) jump, h))
       by new s news (inr more) = inr (omega (arith, more, weak (is_jump item) (rank form) (rank new) (step_le item form new s)))
 
+  -- a round gives no item a form, and takes none
+  some_after : (k : ℕ) (items : List AsmItem) (forms : List (Option Form)) → length forms ≡ length items → map is_some (round_on k items forms) ≡ map is_some forms
+  some_after k [] [] same = refl
+  some_after k [] (form ∷ forms) same = absurd (omega arith)
+  some_after k (item ∷ items) [] same = absurd (omega arith)
+  some_after k (item ∷ items) (None ∷ forms) same = ap (λ bs. false ∷ bs) (some_after (suc k) items forms (omega arith))
+  some_after k (item ∷ items) (Some form ∷ forms) same = ap (λ bs. true ∷ bs) (some_after (suc k) items forms (omega arith))
+
   -- the form of an item after a round
   form_after : (k : ℕ) (items : List AsmItem) (forms : List (Option Form)) (j : ℕ) (item : AsmItem) (form : Option Form) → slice_get items j ≡ Some item → slice_get forms j ≡ Some form
       → slice_get (round_on k items forms) j ≡ Some (grown (at (k + j) + 2) (at (target item)) item form)
@@ -141,6 +149,25 @@ all_in_length form (item ∷ items) = ap suc (all_in_length form items)
 pub rounds_length : (items : List AsmItem) (n : ℕ) → length (rounds items n) ≡ length items
 rounds_length items zero = all_in_length Form.Short items
 rounds_length items (suc n) = round_length items (rounds items n)
+
+all_in_jumps : (items : List AsmItem) → map is_some (all_in Form.Short items) ≡ map is_jump items
+all_in_jumps [] = refl
+all_in_jumps (item ∷ items) = ap₂ (λ b bs. b ∷ bs) (by (is_jump item)) (all_in_jumps items)
+  where
+    by : (b : Bool) → is_some (if b then Some Form.Short else None) ≡ b
+    by true = refl
+    by false = refl
+
+round_some : (items : List AsmItem) (forms : List (Option Form)) → length forms ≡ length items → map is_some (round items forms) ≡ map is_some forms
+unfolding round
+round_some items forms same = some_after (address items forms) (target_of items) 0 items forms same
+
+rounds_some : (items : List AsmItem) (n : ℕ) → map is_some (rounds items n) ≡ map is_jump items
+rounds_some items zero = all_in_jumps items
+rounds_some items (suc n) = round_some items (rounds items n) (rounds_length items n) ∙ rounds_some items n
+
+pub forms_are_of_jumps : FormsAreOfJumps
+forms_are_of_jumps items forms r = ap (map is_some) r.made ∙ rounds_some items r.count
 
 -- each round but the last raises the score, which is at most twice the number of jumps
 relaxed_within : (items : List AsmItem) (fuel n : ℕ) → n ≤ score items (rounds items n) → 2 * jump_count items < fuel + n → (m : ℕ) × IsRelaxed items (rounds items m)

@@ -1,11 +1,11 @@
 -- Laws of the assembly language (own): what well formed items give, what relaxation comes to, and that straight-line code runs through.
-use Rattle.std.specs.Prelude.{◌≡◌, ℕ, ◌+◌, ◌≤◌, List, length, slice_get, Option, Some, true}
+use Rattle.std.specs.Prelude.{◌≡◌, ℕ, ◌+◌, ◌≤◌, List, length, map, slice_get, Option, Some, is_some, true}
 use Rattle.cerco_traces.specs.Systems.{EachWithin, Run}
 use Rattle.mcs51_isa.specs.declared.instr.Instr.{Instr}
 use Rattle.sim51.specs.Straight.{AreStraight}
 use Rattle.asm51.specs.declared.items.AsmItem.{AsmItem}
 use Rattle.asm51.specs.declared.layouts.Form.{Form}
-use Rattle.asm51.specs.Items.{target_of}
+use Rattle.asm51.specs.Items.{target_of, is_jump}
 use Rattle.asm51.specs.Layouts.{address, code_length, all_in, long_length}
 use Rattle.asm51.specs.Relaxation.{reaches, round, IsRelaxed}
 use Rattle.asm51.specs.Meaning.{AsmState, counted, assembly}
@@ -29,6 +29,10 @@ RelaxedReaches =
     (items : List AsmItem) (forms : List (Option Form)) → IsRelaxed items forms → (k : ℕ) (item : AsmItem) (form : Form)
     → slice_get items k ≡ Some item → slice_get forms k ≡ Some (Some form)
     → reaches (address items forms k + 2) (address items forms (target_of items item)) item form ≡ true
+
+-- the items that have a form in the relaxed layout are the jumps and the tests
+abbrev pub FormsAreOfJumps : Type 0
+FormsAreOfJumps = (items : List AsmItem) (forms : List (Option Form)) → IsRelaxed items forms → map is_some forms ≡ map is_jump items
 
 abbrev pub LongIsLongest : Type 0
 LongIsLongest = (items : List AsmItem) (forms : List (Option Form)) → code_length items forms ≤ long_length items

@@ -1,5 +1,5 @@
 //! Laws of the assembly language. Each function does nothing, and ensures a law.
-ghost use Rattle.asm51.specs.Laws.{TargetsAreFound, LabelsAreMarked, OneIsRelaxed, RelaxedReaches, LongIsLongest, LongStays, StraightCodeRuns};
+ghost use Rattle.asm51.specs.Laws.{TargetsAreFound, LabelsAreMarked, OneIsRelaxed, RelaxedReaches, FormsAreOfJumps, LongIsLongest, LongStays, StraightCodeRuns};
 
 /// In well formed items each jump, test and call leads to what it names.
 pub fn targets_are_found()
@@ -19,6 +19,11 @@ pub fn one_is_relaxed()
 /// In the relaxed layout each jump reaches its target.
 pub fn relaxed_reaches()
     ensures { RelaxedReaches }
+{}
+
+/// In the relaxed layout the jumps and the tests have forms, and no other items.
+pub fn forms_are_of_jumps()
+    ensures { FormsAreOfJumps }
 {}
 
 /// No layout is longer than the one with long jumps.
