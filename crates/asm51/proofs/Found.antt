@@ -1,5 +1,5 @@
 -- What the places of well formed items are.
-use Rattle.std.proofs.Common.{◌≡◌, ℕ, ◌+◌, ◌<◌, ◌&&◌, List, Bool, true, false, nat_eq, refl, ap, ap₂, ◌∙◌, arith, length, map, slice_get, Option, Some, unwrap_or, eqb-true}
+use Rattle.std.proofs.Common.{◌≡◌, ℕ, ◌+◌, ◌<◌, List, Bool, true, nat_eq, ap, ap₂, ◌∙◌, arith, length, map, slice_get, Option, Some, unwrap_or, eqb-true}
 use Rattle.std.specs.List.{range_with_len}
 use Rattle.std.proofs.lemmas.List.FromFn.{length-range_with_len, get_or-range_with_len, length-map-range_with_len, get_or-map-range_with_len}
 use Rattle.std.proofs.lemmas.Option.{slice_get-get_or}
@@ -10,11 +10,7 @@ use Rattle.asm51.specs.Items.{is_here, is_enter, is_mark_of, mark_count, place}
 use Rattle.asm51.specs.Emission.{word_address, label_address, labels_of}
 use Rattle.asm51.specs.WellFormed.{StandsOnce, JumpHasPlace, TestHasPlace, CallHasEntry, LabelIsBelow, IsWellFormed}
 use Rattle.asm51.specs.Laws.{TargetsAreFound, LabelsAreMarked}
-use Rattle.asm51.proofs.Counting.{first_found, only_one, of_each}
-
-both_true : (a b : Bool) → (a && b) ≡ true → (a ≡ true) × (b ≡ true)
-both_true true b e = (refl, e)
-both_true false b e = cc
+use Rattle.asm51.proofs.Counting.{both_true, first_found, only_one, of_each}
 
 here_is : (f n : ℕ) (item : AsmItem) → is_here f n item ≡ true → item ≡ Here f n
 here_is f n (Here g m) e = let b = both_true (nat_eq g f) (nat_eq m n) e in ap₂ (λ p q. Here p q) (eqb-true g f b.0) (eqb-true m n b.1)

@@ -1,13 +1,15 @@
 -- Layouts and objects, computed on small programs.
 use Rattle.std.proofs.Common.{◌≡◌, ◌+◌, [], ◌∷◌, Some, None, map, take, drop, true, false, refl, lit≤}
-use Rattle.mcs51_isa.specs.declared.instr.Instr.TheVariants.{Nop}
+use Rattle.mcs51_isa.specs.declared.instr.Instr.TheVariants.{Nop, MovDirect}
+use Rattle.mcs51_isa.specs.declared.instr.Move.TheVariants.{IntoAcc}
+use Rattle.mcs51_isa.specs.Table.{cycles_of}
 use Rattle.asm51.specs.declared.items.AsmItem.TheVariants.{Plain, Mark, Enter, Here, Jump, Test, Call}
 use Rattle.asm51.specs.declared.layouts.Form.TheVariants.{Short, Page, Long}
-use Rattle.asm51.specs.Instructions.{item_size}
+use Rattle.asm51.specs.Instructions.{instructions, item_size}
 use Rattle.asm51.specs.Layouts.{address, code_length, long_length}
 use Rattle.asm51.specs.Relaxation.{is_near, same_page, round, rounds, IsRelaxed}
 use Rattle.asm51.specs.Emission.{code_of, labels_of}
-use Rattle.asm51.proofs.Samples.{nothing, one_write, countdown, over_150, at_a_page}
+use Rattle.asm51.proofs.Samples.{start, initialise, nothing, one_write, countdown, over_150, at_a_page}
 
 -- ---- sizes
 
@@ -19,6 +21,14 @@ sizes_of_a_test = refl
 
 sizes_of_others : map (λ item. item_size item None) (Plain Nop ∷ Call 3 ∷ Enter 3 ∷ Here 3 4 ∷ Mark (record { 0 = 5 }) ∷ []) ≡ 1 ∷ 3 ∷ 0 ∷ 0 ∷ 0 ∷ []
 sizes_of_others = refl
+
+-- the start, a byte that it initialises, a test of a cell, and a jump
+lengths_of_parts : map long_length (start ∷ initialise 1 255 ∷ (Plain (MovDirect IntoAcc 0x10) ∷ Test 0 1 ∷ []) ∷ (Jump 0 1 ∷ []) ∷ []) ≡ 8 ∷ 6 ∷ 9 ∷ 3 ∷ []
+lengths_of_parts = refl
+
+-- a far test takes JNZ and SJMP, or JNZ and LJMP: four cycles both ways
+cycles_of_a_far_test : map cycles_of (instructions 0 2000 (Test 0 1) (Some Long)) ≡ 2 ∷ 2 ∷ 2 ∷ []
+cycles_of_a_far_test = refl
 
 -- ---- how far the forms reach
 

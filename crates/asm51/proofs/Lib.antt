@@ -3,6 +3,7 @@ pub mod Sizes
 pub mod Addresses
 pub mod Rounds
 pub mod Readings
+pub mod Reaching
 pub mod Found
 pub mod StraightCode
 mod Samples

@@ -1,7 +1,7 @@
 -- Small assembly programs, by which the definitions are tried.
 use Rattle.std.specs.Prelude.{ℕ, List, [], ◌∷◌, ◌++◌, replicate}
 use Rattle.mcs51_isa.specs.declared.operands.Reg.TheVariants.{R2}
-use Rattle.mcs51_isa.specs.declared.instr.Instr.TheVariants.{Nop, Ret, Sjmp, ArithImmediate, MovDirectImmediate, MovDptr, MovDirect, MovRegister}
+use Rattle.mcs51_isa.specs.declared.instr.Instr.TheVariants.{Nop, Ret, Sjmp, ArithImmediate, MovAccImmediate, MovDirectImmediate, MovDptr, MovxDptr, MovDirect, MovRegister}
 use Rattle.mcs51_isa.specs.declared.instr.ReturnKind.TheVariants.{FromCall}
 use Rattle.mcs51_isa.specs.declared.instr.SumOp.TheVariants.{Add}
 use Rattle.mcs51_isa.specs.declared.instr.Move.TheVariants.{IntoAcc, FromAcc}
@@ -18,6 +18,10 @@ start = Plain (MovDirectImmediate 0x81 0x7F) ∷ Call 0 ∷ Plain (Sjmp 0xFE) �
 
 abbrev pub return : AsmItem
 return = Plain (Ret FromCall)
+
+-- a byte that the start writes to external RAM
+abbrev pub initialise : ℕ → ℕ → List AsmItem
+initialise address byte = Plain (MovDptr address) ∷ Plain (MovAccImmediate byte) ∷ Plain (MovxDptr FromAcc) ∷ []
 
 -- void main(void){}
 abbrev pub nothing : List AsmItem
