@@ -1,6 +1,6 @@
 -- How many elements of a list pass a test, and where the first one stands.
 use Rattle.std.proofs.Common.{◌≡◌, ℕ, zero, suc, ◌+◌, ◌≤◌, ◌&&◌, List, [], ◌∷◌, Bool, true, false, cond, refl, ap, ◌∙◌, subst, arith, slice_get, Some, count_by}
-use Rattle.std.specs.List.{position_from, AllByRecursion}
+use Rattle.std.specs.List.{position_from, AllByRecursion, enumerate_from}
 use Rattle.std.proofs.lemmas.List.Sums.{sum_by-cons}
 
 pub both_true : (a b : Bool) → (a && b) ≡ true → (a ≡ true) × (b ≡ true)
@@ -72,3 +72,14 @@ of_each P (y ∷ xs) zero x h g =
     let q : y ≡ x = cc in
     subst P q h.0
 of_each P (y ∷ xs) (suc k) x h g = of_each P xs k x h.1 g
+
+-- what holds of the number of each element and the element
+pub of_each_numbered : {X : Type 0} (P : ℕ → X → Type 0) (i : ℕ) (xs : List X) (k : ℕ) (x : X) → AllByRecursion (λ p. P p.0 p.1) (enumerate_from i xs) → slice_get xs k ≡ Some x → P (i + k) x
+of_each_numbered P i [] k x h g = absurd cc
+of_each_numbered P i (y ∷ xs) zero x h g =
+    let q : y ≡ x = cc in
+    let z : i ≡ i + 0 = omega arith in
+    subst (λ n. P n x) z (subst (P i) q h.0)
+of_each_numbered P i (y ∷ xs) (suc k) x h g =
+    let s : i + 1 + k ≡ i + suc k = omega arith in
+    subst (λ n. P n x) s (of_each_numbered P (i + 1) xs k x h.1 g)

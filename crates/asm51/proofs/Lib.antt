@@ -10,3 +10,4 @@ mod Samples
 mod MeaningExamples
 mod LayoutExamples
 mod WellFormedExamples
+mod EndExamples

@@ -4,19 +4,13 @@ use Rattle.mcs51_isa.specs.declared.instr.Instr.TheVariants.{Nop}
 use Rattle.asm51.specs.declared.items.AsmItem.{AsmItem}
 use Rattle.asm51.specs.declared.items.AsmItem.TheVariants.{Plain, Mark, Enter, Here, Jump, Test, Call}
 use Rattle.asm51.specs.WellFormed.{JumpsHavePlaces, TestsHavePlaces, CallsHaveEntries, LabelsStandOnce, LabelsAreBelow, MarksHaveNops, AreFewItems, IsWellFormed}
-use Rattle.asm51.proofs.Samples.{labelled, return, countdown}
+use Rattle.asm51.proofs.Samples.{filling, labelled, return, countdown}
 
-well_formed : IsWellFormed (Jump 0 1 ∷ countdown)
-well_formed =
-    record {
-      jumps = search;
-      tests = search;
-      calls = search;
-      labels = search;
-      below = grind arith;
-      nops = search;
-      few = lit≤ tt;
-    }
+pub well_formed : IsWellFormed countdown
+well_formed = record { jumps = search; tests = search; calls = search; labels = search; below = grind arith; nops = search; few = lit≤ tt }
+
+well_formed_jump : IsWellFormed (Here 0 1 ∷ filling 3 ++ Jump 0 1 ∷ [])
+well_formed_jump = record { jumps = search; tests = search; calls = search; labels = search; below = search; nops = search; few = lit≤ tt }
 
 no_place : JumpsHavePlaces (Jump 0 1 ∷ Here 1 0 ∷ []) → ⊥
 no_place h = absurd cc

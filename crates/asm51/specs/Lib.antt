@@ -8,4 +8,7 @@ pub mod JumpLayouts
 pub mod WellFormed
 pub mod Places
 pub mod StraightCode
+pub mod Numbered
+pub mod Ends
+pub mod Selected
 pub mod Laws
