@@ -1,0 +1,14 @@
+pub mod Items
+pub mod Meaning
+pub mod Instructions
+pub mod Layouts
+pub mod Relaxation
+pub mod Emission
+pub mod JumpLayouts
+pub mod WellFormed
+pub mod Places
+pub mod StraightCode
+pub mod Numbered
+pub mod Ends
+pub mod Selected
+pub mod Laws
