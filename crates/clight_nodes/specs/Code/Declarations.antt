@@ -106,22 +106,20 @@ end_parameters (w.InFirstParameter left) z a = declare d.HeaderEnd (n.Header lef
 end_parameters (w.InLaterParameter left) z a = declare d.HeaderEnd (n.Header left a ∷ z)
 end_parameters _ z a = refused
 
-abbrev pub named : Owner → List Node → Symbol → Span → State
-named owner z s.LeftParenthesis a = open_parameters owner z a
-named owner z s.LeftBracket a = open_length owner (n.NoLengths ∷ z) a
-named owner z s.Semicolon a = end_declaration owner (n.NoLengths ∷ z) a
-named owner z s.Assign a = begin_initialiser owner (n.NoLengths ∷ z) a
-named owner z s.Comma a = next_parameter owner z a
-named owner z s.RightParenthesis a = end_parameters owner z a
-named owner z _ a = refused
-
--- ---- lengths
-
+-- after a declaration: a length, its end, or a first value
 abbrev pub lengths : Owner → List Node → Symbol → Span → State
 lengths owner z s.LeftBracket a = open_length owner z a
 lengths owner z s.Semicolon a = end_declaration owner z a
 lengths owner z s.Assign a = begin_initialiser owner z a
 lengths owner z _ a = refused
+
+abbrev pub named : Owner → List Node → Symbol → Span → State
+named owner z s.LeftParenthesis a = open_parameters owner z a
+named owner z s.Comma a = next_parameter owner z a
+named owner z s.RightParenthesis a = end_parameters owner z a
+named owner z y a = lengths owner (n.NoLengths ∷ z) y a
+
+-- ---- lengths
 
 abbrev pub length_number : Owner → (left : Span) → List Node → Symbol → Span → State
 length_number owner left z (s.Number number) a = declare (d.LengthEnd owner left number a) z
