@@ -1,5 +1,5 @@
 -- The recogniser does with expressions what the machine over trees does.
-use Rattle.std.proofs.Common.{◌≡◌, ℕ, Bool, true, false, cond, List, [], ◌∷◌, refl, sym, ap, ◌∙◌}
+use Rattle.std.proofs.Common.{◌≡◌, ℕ, Bool, true, false, cond, List, [], ◌∷◌, refl, ◌∙◌}
 use Rattle.std.specs.Prelude.{nat_le, Option, Some, None}
 use Rattle.clight_source.specs.declared.span.Span.{Span}
 use Rattle.clight_source.specs.declared.symbol.Symbol.{Symbol}
@@ -10,14 +10,14 @@ use Rattle.clight_source.specs.declared.tree.MemberOperator.{MemberOperator}
 use Rattle.clight_source.specs.declared.tree.Specifiers.{Specifiers}
 use Rattle.clight_source.specs.Spelling.{level, unary_level}
 use Rattle.clight_source.specs.Trees.{Expr, Binary, Prefix, Cast}
-use Rattle.clight_nodes.specs.declared.nodes.Node.TheVariants as n
+use Rattle.clight_nodes.specs.declared.nodes.Node.{Node}
 use Rattle.clight_nodes.specs.declared.forms.Form.TheVariants as f
 use Rattle.clight_nodes.specs.declared.modes.Mode.TheVariants as m
 use Rattle.clight_nodes.specs.Code.States.{at, refused}
 use Rattle.clight_nodes.specs.Code.Expressions as r
 use Rattle.clight_nodes.specs.Code.Expressions.{first_word, next_word, binary_of, mark_level, binds}
-use Rattle.clight_grammar.specs.Code.Forms.{Form, InBinary, InPrefix, InCast, InParenthesis, InTarget, InValue, Operand, CastWords, Refused}
-use Rattle.clight_grammar.specs.Code.Expressions.{settle, Settled, settled, is_target, infix_at, cast_words, cast_tag, read_pending, operand, member_name, tag_of_cast, in_cast}
+use Rattle.clight_grammar.specs.Code.Forms.{AsStatement, Form, InBinary, InPrefix, InCast, InParenthesis, InTarget, InValue, Operand, CastWords, Refused}
+use Rattle.clight_grammar.specs.Code.Expressions.{settle, Settled, is_target, infix_at, cast_words, cast_tag, read_pending, operand, member_name, tag_of_cast, in_cast}
 use Rattle.clight_nodes.specs.Code.Postfix.{out_expr}
 use Rattle.clight_grammar.specs.Code.Flat.{flat_forms, out_forms, flat_settled, flat}
 
@@ -52,7 +52,7 @@ binds_above y = binds_by (binary_of y) y
 
 pub target_flat : (k : List Form) → r.is_target (flat_forms k) ≡ is_target k
 target_flat [] = refl
-target_flat (InTarget ∷ k) = refl
+target_flat (InTarget place ∷ k) = refl
 target_flat (g ∷ k) = refl
 
 pub infix_by : (items : List Node) (b : Bool) (operator : BinaryOperator) (a : Span) (e : Expr) (k : List Form)
@@ -77,7 +77,8 @@ cast_tag_flat items a (g ∷ k) = refl
 
 pub read_pending_flat : (items : List Node) (a : Span) (k : List Form) → flat items (read_pending a k) ≡ r.read_pending a (flat_forms k) (out_forms items k)
 read_pending_flat items a [] = refl
-read_pending_flat items a (InValue target equals ∷ k) = refl
+read_pending_flat items a (InValue AsStatement target equals ∷ k) = refl
+read_pending_flat items a (InValue place target equals ∷ k) = refl
 read_pending_flat items a (g ∷ k) = refl
 
 pub cast_start_by : (items : List Node) (b : Option Specifiers) (k : List Form)

@@ -14,6 +14,7 @@ use Rattle.clight_nodes.specs.Code.Expressions.{make_name, first_word, next_word
 use Rattle.clight_nodes.specs.declared.modes.StructFront.{StructFront}
 use Rattle.clight_grammar.specs.Code.Parts.{make_declared, more_members, struct_item, global_item, header, prototype_item, no_locals, make_local, with_local}
 use Rattle.clight_grammar.specs.Code.Forms.{InLocalValue, InLocals, Owner, InSource, InStruct, InFirstParameter, InLaterParameter, InFunction, NumberList, Mode, Operand, Statement, TypeStart, TagName, Words, Stars, Named, Lengths, LengthNumber, LengthEnd, Members, StructEnd, InitialiserStart, InitialiserNumber, InitialiserEnd, ListStart, ListNumber, ListEnd, HeaderEnd, Finished, Refused}
+use Rattle.clight_nodes.specs.Code.Declarations.{make_length, signed}
 
 -- ---- the type and the name
 

@@ -11,7 +11,7 @@ use Rattle.clight_source.specs.declared.tree.MemberOperator.{MemberOperator}
 use Rattle.clight_source.specs.declared.tree.Specifiers.{Specifiers}
 use Rattle.clight_source.specs.declared.tree.Specifiers.TheVariants as t
 use Rattle.clight_source.specs.Spelling.{level, unary_level}
-use Rattle.clight_nodes.specs.Code.Expressions.{make_name}
+use Rattle.clight_nodes.specs.Code.Expressions.{make_name, first_word, next_word}
 use Rattle.clight_grammar.specs.Code.Forms.{AsStatement, Form, InBinary, InPrefix, InCast, InParenthesis, InTarget, InValue, Mode, Operand, AfterOperand, CastTag, CastWords, StatementEnd, ReadPending, Refused}
 use Rattle.clight_source.specs.Trees.{Expr, Variable, Number, Binary, Prefix, Cast, Select}
 

@@ -76,11 +76,11 @@ abbrev pub start : State
 start = state [] ItemStart
 
 -- the items, where the text may end
-abbrev pub ends_in : List Item → Mode → Option List Item
+abbrev pub ends_in : List Item → Mode → Option (List Item)
 ends_in items ItemStart = Some items
 ends_in items _ = None
 
-abbrev pub ends : State → Option List Item
+abbrev pub ends : State → Option (List Item)
 ends x = ends_in x.items x.mode
 
 abbrev pub refused : Mode → Bool

@@ -1,0 +1,5 @@
+pub mod Lists
+pub mod FlatExpressions
+pub mod FlatStatements
+pub mod FlatDeclarations
+pub mod FlatSteps
