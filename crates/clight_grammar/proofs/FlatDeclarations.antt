@@ -139,10 +139,10 @@ pub initialiser_number_flat : (items : List Node) (x : Declaration) (equals minu
 initialiser_number_flat items x equals minus (s.Number number) a = refl
 initialiser_number_flat items x equals minus y a = refl
 
-pub initialiser_end_flat : (items : List Node) (x : Declaration) (initialiser : Initialiser) (y : Symbol) (a : Span)
-    → flat items (initialiser_end x initialiser y a) ≡ r.initialiser_end (out_initialiser initialiser (out_declaration x items)) y a
-initialiser_end_flat items x initialiser s.Semicolon a = refl
-initialiser_end_flat items x initialiser y a = refl
+pub initialiser_end_flat : (items : List Node) (x : Declaration) (first : Initialiser) (y : Symbol) (a : Span)
+    → flat items (initialiser_end x first y a) ≡ r.initialiser_end (out_initialiser first (out_declaration x items)) y a
+initialiser_end_flat items x first s.Semicolon a = refl
+initialiser_end_flat items x first y a = refl
 
 abbrev pub numbers : List Node → NumberList → List Node
 numbers items l = out_numbers l.earlier (out_declaration l.declaration items)

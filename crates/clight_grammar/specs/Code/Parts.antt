@@ -1,11 +1,20 @@
 -- The parts of a tree that aren't trees of the grammar: what is there in the middle of a `for`, of a struct and of a function.
-use Rattle.std.specs.Prelude.{List, [], ◌∷◌, ◌++◌, Option, Some, None}
+use Rattle.std.specs.Prelude.{List, [], ◌∷◌, ◌++◌, Option, Some, None, false}
 use Rattle.clight_source.specs.declared.span.Span.{Span}
+use Rattle.clight_source.specs.declared.symbol.Literal.{Literal}
+use Rattle.clight_source.specs.declared.symbol.Radix.TheVariants.{Decimal}
 use Rattle.clight_source.specs.declared.tree.Name.{Name}
 use Rattle.clight_source.specs.declared.tree.Specifiers.{Specifiers}
 use Rattle.clight_source.specs.declared.tree.CallTarget.{CallTarget}
 use Rattle.clight_source.specs.Trees.{Expr, Variable, Assignment, Test, Arguments, Call, ForHead, Stmts, Declared, Declaration, Member, Initialiser, Parameters, Header, LocalInitialiser, Local, Item, StructItem, GlobalItem, PrototypeItem, FunctionItem}
 use Rattle.clight_nodes.specs.declared.modes.StructFront.{StructFront}
+
+-- what is there in the places of a program that a theorem makes up
+abbrev pub no_span : Span
+no_span = record { from = 0; to = 0 }
+
+abbrev pub no_literal : Literal
+no_literal = record { value = 0; radix = Decimal; unsigned = false }
 
 -- the name that an expression is, where it is one
 abbrev pub name_of : Expr → Option Name

@@ -1,0 +1,4 @@
+pub mod FirstDeep
+pub mod Depths
+pub mod ItemDepths
+pub mod OneNesting
