@@ -1,22 +1,18 @@
--- The levels of the nodes of expressions and statements: its depth, up to 65, its start, and its first node that is too deep.
-use Rattle.std.proofs.Common.{◌≡◌, ℕ, ◌+◌, ◌≤◌, ◌<◌, min, max, Bool, true, false, cond, List, [], ◌∷◌, ◌++◌, length, take, get_or, refl, sym, ap, ◌∙◌, arith}
+-- The levels of the nodes of expressions and statements: the depth, up to 65, the start, and the first node that is too deep.
+use Rattle.std.proofs.Common.{◌≡◌, ℕ, ◌+◌, ◌≤◌, ◌<◌, min, max, Bool, true, false, List, [], ◌∷◌, ◌++◌, refl, sym, ap, ◌∙◌, arith}
 use Rattle.std.specs.Prelude.{nat_lt, Option, Some, None}
 use Rattle.std.specs.List.{flat_map}
-use Rattle.std.proofs.lemmas.List.{take_more, take_all}
 use Rattle.clight_source.specs.declared.span.Span.{Span}
 use Rattle.clight_source.specs.declared.tree.Name.{Name}
 use Rattle.clight_source.specs.declared.tree.CallTarget.{CallTarget}
 use Rattle.clight_source.specs.Trees.{Expr, Variable, Number, Parenthesis, Binary, Prefix, Cast, Index, Select, Assignment, EarlierArgument, Arguments, NoArguments, Arguments', Call, ForHead, Stmt, Empty, Block, Assign, ReadPort, WritePort, CallOf, If, IfElse, While, Do, For, Break, Continue, Return, Stmts, NoStmts, Then}
-use Rattle.clight_source.specs.Depth.{depth, stmt_depth, stmts_depth, expr_start, stmt_start, call_start, Node, expr_nodes, optional_nodes, assignment_nodes, earlier_argument_nodes, arguments_nodes, for_nodes, stmt_nodes, stmts_nodes}
+use Rattle.clight_source.specs.Depth.{depth, stmt_depth, stmts_depth, expr_start, stmt_start, Node, expr_nodes, optional_nodes, assignment_nodes, earlier_argument_nodes, for_nodes, stmt_nodes, stmts_nodes}
 use Rattle.clight_nodes.specs.declared.nodes.Node.{Node as Out}
 use Rattle.clight_nodes.specs.declared.nodes.Node.TheVariants as n
-use Rattle.clight_nodes.specs.Code.States.{newest}
-use Rattle.clight_nodes.proofs.Newest.{newest-nil, newest-push}
 use Rattle.clight_nodes.specs.Code.Postfix.{onto, out_expr, add_argument, out_earlier, out_call, out_return, out_assignment, out_condition, out_head, middle_of, out_stmt, out_stmts}
 use Rattle.clight_nesting.specs.declared.levels.Level.{Level}
 use Rattle.clight_nesting.specs.Code.Levels.{level, Levels, levels, least, node, measure, measured}
-use Rattle.clight_nesting.specs.Code.Nesting.{IsNesting}
-use Rattle.clight_nesting.proofs.FirstDeep.{least_none, least_assoc, first_deep, first_deep-append, too_deep, below_is, above_is, shallow_none, deep_some, nesting_by}
+use Rattle.clight_nesting.proofs.FirstDeep.{least_none, least_assoc, first_deep, first_deep-append, too_deep, below_is, above_is, shallow_none, deep_some}
 
 -- ---- one node
 
@@ -150,7 +146,7 @@ mutual
   pub stmt_levels : (x : Stmt) (z : List Out) → measured (out_stmt x z) ≡ put_stmt x (measured z)
   stmt_levels (Empty a) z = leaf_push _ (measured z) _ None (nothing_new _)
   stmt_levels (Block left xs right) z =
-      ap (step (n.Block left right)) (stmts_levels xs z) ∙ node_push (stmts_depth xs) left.from (measured z) _ (first_deep (stmts_nodes xs)) refl
+      ap (step (n.Block left right)) (stmts_levels xs (n.NoStatements ∷ z) (measured z).list (measured z).deep refl) ∙ node_push (stmts_depth xs) left.from (measured z) _ (first_deep (stmts_nodes xs)) refl
   stmt_levels (Assign x a) z =
       ap (step (n.Assign x.equals a)) (expr_levels x.value (out_expr x.target z) ∙ ap (put_expr x.value) (expr_levels x.target z))
       ∙ leaf_push _ (measured z) _ (first_deep (expr_nodes x.target ++ expr_nodes x.value)) (join _ (expr_nodes x.target) (expr_nodes x.value))
@@ -179,9 +175,10 @@ mutual
   stmt_levels (Return k value a) z = return_levels k value a z
 
   -- statements that join an empty list
-  pub stmts_levels : (xs : Stmts) (z : List Out) → measured (out_stmts xs (n.NoStatements ∷ z)) ≡ push (stmts_depth xs) 0 (first_deep (stmts_nodes xs)) (measured z)
-  stmts_levels NoStmts z = leaf_push _ (measured z) _ None (nothing_new _)
-  stmts_levels (Then xs x) z =
-      ap (step n.Then) (stmt_levels x (out_stmts xs (n.NoStatements ∷ z)) ∙ ap (put_stmt x) (stmts_levels xs z))
-      ∙ (ap (λ d. levels (level d 0 ∷ (measured z).list) (least (least (measured z).deep (first_deep (stmts_nodes xs))) (first_deep (stmt_nodes x)))) (max_capped (stmts_depth xs) (stmt_depth x))
-      ∙ ap (levels (level (min (max (stmts_depth xs) (stmt_depth x)) 65) 0 ∷ (measured z).list)) (join (measured z).deep (stmts_nodes xs) (stmt_nodes x)))
+  pub stmts_levels : (xs : Stmts) (z : List Out) (k : List Level) (m : Option ℕ) → measured z ≡ levels (level 0 0 ∷ k) m
+      → measured (out_stmts xs z) ≡ levels (level (min (stmts_depth xs) 65) 0 ∷ k) (least m (first_deep (stmts_nodes xs)))
+  stmts_levels NoStmts z k m h = h ∙ ap (levels (level 0 0 ∷ k)) (nothing_new m)
+  stmts_levels (Then xs x) z k m h =
+      ap (step n.Then) (stmt_levels x (out_stmts xs z) ∙ ap (put_stmt x) (stmts_levels xs z k m h))
+      ∙ (ap (λ d. levels (level d 0 ∷ k) (least (least m (first_deep (stmts_nodes xs))) (first_deep (stmt_nodes x)))) (max_capped (stmts_depth xs) (stmt_depth x))
+      ∙ ap (levels (level (min (max (stmts_depth xs) (stmt_depth x)) 65) 0 ∷ k)) (join m (stmts_nodes xs) (stmt_nodes x)))

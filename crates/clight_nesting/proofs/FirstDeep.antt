@@ -1,11 +1,11 @@
 -- The least start of a node that is too deep, of a list of nodes.
-use Rattle.std.proofs.Common.{◌≡◌, ℕ, suc, ◌+◌, ◌≤◌, ◌<◌, ◌⊎◌, inl, inr, min, max, Bool, true, false, cond, List, [], ◌∷◌, ◌++◌, All, Contains, refl, sym, ap, ap₂, subst, ◌∙◌, arith}
+use Rattle.std.proofs.Common.{◌≡◌, ℕ, suc, ◌+◌, ◌≤◌, ◌<◌, ◌⊎◌, inl, inr, min, Bool, true, false, cond, List, [], ◌∷◌, ◌++◌, All, Contains, refl, sym, ap, ap₂, subst, ◌∙◌, arith}
 use Rattle.std.specs.Prelude.{nat_le, nat_lt, Option, Some, None}
 use Rattle.std.proofs.lemmas.Bool.Decides.{nat_tests}
 use Rattle.std.proofs.lemmas.Bool.{cases_lt}
 use Rattle.std.proofs.lemmas.List.Elements.{All-nil, All-cons, All-head, All-tail}
 use Rattle.clight_source.specs.Trees.{Item}
-use Rattle.clight_source.specs.Depth.{Node, node, depth_limit, nodes, IsShallow, IsFirstDeep}
+use Rattle.clight_source.specs.Depth.{Node, node, depth_limit, nodes}
 use Rattle.clight_nesting.specs.Code.Levels.{least}
 use Rattle.clight_nesting.specs.Code.Nesting.{IsNesting}
 
@@ -53,10 +53,10 @@ low_is d h = grind (arith, nat_tests)
 pub high_is : (d : ℕ) → nat_le d 64 ≡ false → 65 ≤ d
 high_is d h = grind (arith, nat_tests)
 
-low_test : (d : ℕ) → d ≤ 64 → nat_le d 64 ≡ true
+pub low_test : (d : ℕ) → d ≤ 64 → nat_le d 64 ≡ true
 low_test d h = grind (arith, nat_tests)
 
-high_test : (d : ℕ) → 65 ≤ d → nat_le d 64 ≡ false
+pub high_test : (d : ℕ) → 65 ≤ d → nat_le d 64 ≡ false
 high_test d h = grind (arith, nat_tests)
 
 pub below_is : (d : ℕ) → nat_lt d 64 ≡ true → d < 64

@@ -198,11 +198,7 @@ fn more(depth: u32) -> u32
 fn begun(start: u32, part: Level) -> u32
     ensures { result ≡ s.begun start part }
 {
-    if part.depth < 1 {
-        start
-    } else {
-        part.start
-    }
+    if part.depth < 1 { start } else { part.start }
 }
 
 // One star more.
@@ -275,9 +271,9 @@ fn settle(x: &mut Levels, n: Node)
     }
 }
 
-/// One node more.
-pub fn measure(x: &mut Levels, n: Node) -> Result<(), NoMemory>
-    ensures { OnOk result (levels_of x.new ≡ s.measure n (newest x.old.list.items) x.old.deep) }
+// A node of an expression, or of what is declared.
+fn measure_expression(x: &mut Levels, n: Node) -> Result<(), NoMemory>
+    ensures { OnOk result (levels_of x.new ≡ s.measure_expression n (newest x.old.list.items) x.old.deep) }
 {
     match n {
         Node::Name(name) => put(x, 0, name.span.from),
@@ -288,24 +284,6 @@ pub fn measure(x: &mut Levels, n: Node) -> Result<(), NoMemory>
         Node::Cast(left, _, _) => over(x, left.from),
         Node::Index(_, _) => between(x),
         Node::Select(_, _, _) => member(x),
-        Node::Empty(at) => put(x, 0, at.from),
-        Node::NoStatements => put(x, 0, 0),
-        Node::Then => then(x),
-        Node::Block(left, _) => over(x, left.from),
-        Node::Assign(_, _) => assign(x),
-        Node::ReadPort(_, _, _) => read_port(x),
-        Node::WritePort(port, _, _) => simple(x, port.from),
-        Node::CallAlone(target, function, _, _, _) => put(x, 0, call_start(target, function)),
-        Node::Call(target, function, _, _, _) => simple(x, call_start(target, function)),
-        Node::If(keyword, _, _) => guarded(x, keyword.from),
-        Node::IfElse(keyword, _, _, _) => if_else(x, keyword.from),
-        Node::While(keyword, _, _) => guarded(x, keyword.from),
-        Node::Do(keyword, _, _, _, _) => do_statement(x, keyword.from),
-        Node::For(middle, _) => over(x, middle.start.keyword.from),
-        Node::Break(keyword, _) => put(x, 0, keyword.from),
-        Node::Continue(keyword, _) => put(x, 0, keyword.from),
-        Node::Return(keyword, _) => put(x, 0, keyword.from),
-        Node::ReturnValue(keyword, _) => simple(x, keyword.from),
         Node::NoStars => put(x, 0, 0),
         Node::Star(at) => star(x, at.from),
         Node::Declared(_, name) => declared(x, name.span.from),
@@ -314,5 +292,41 @@ pub fn measure(x: &mut Levels, n: Node) -> Result<(), NoMemory>
             settle(x, n);
             Ok(())
         }
+    }
+}
+
+// A simple statement.
+fn measure_simple(x: &mut Levels, n: Node) -> Result<(), NoMemory>
+    ensures { OnOk result (levels_of x.new ≡ s.measure_simple n (newest x.old.list.items) x.old.deep) }
+{
+    match n {
+        Node::Empty(at) => put(x, 0, at.from),
+        Node::Assign(_, _) => assign(x),
+        Node::ReadPort(_, _, _) => read_port(x),
+        Node::WritePort(port, _, _) => simple(x, port.from),
+        Node::CallAlone(target, function, _, _, _) => put(x, 0, call_start(target, function)),
+        Node::Call(target, function, _, _, _) => simple(x, call_start(target, function)),
+        Node::Break(keyword, _) => put(x, 0, keyword.from),
+        Node::Continue(keyword, _) => put(x, 0, keyword.from),
+        Node::Return(keyword, _) => put(x, 0, keyword.from),
+        Node::ReturnValue(keyword, _) => simple(x, keyword.from),
+        _ => measure_expression(x, n),
+    }
+}
+
+/// One node more.
+pub fn measure(x: &mut Levels, n: Node) -> Result<(), NoMemory>
+    ensures { OnOk result (levels_of x.new ≡ s.measure n (newest x.old.list.items) x.old.deep) }
+{
+    match n {
+        Node::NoStatements => put(x, 0, 0),
+        Node::Then => then(x),
+        Node::Block(left, _) => over(x, left.from),
+        Node::If(keyword, _, _) => guarded(x, keyword.from),
+        Node::IfElse(keyword, _, _, _) => if_else(x, keyword.from),
+        Node::While(keyword, _, _) => guarded(x, keyword.from),
+        Node::Do(keyword, _, _, _, _) => do_statement(x, keyword.from),
+        Node::For(middle, _) => over(x, middle.start.keyword.from),
+        _ => measure_simple(x, n),
     }
 }

@@ -95,38 +95,47 @@ settle (n.LocalValue equals a) k d = noted (below k) d
 settle (n.Function left right) k d = levels (below k) d
 settle _ k d = levels k d
 
+-- a node of an expression, or of what is declared
+abbrev pub measure_expression : Node → List Level → Option ℕ → Levels
+measure_expression (n.Name name) k d = leaf name.span.from k d
+measure_expression (n.Number number a) k d = leaf a.from k d
+measure_expression (n.Parenthesis left right) k d = over left.from k d
+measure_expression (n.Binary operator a) k d = over_two (top (below k)).start k d
+measure_expression (n.Prefix operator a) k d = over a.from k d
+measure_expression (n.Cast left type right) k d = over left.from k d
+measure_expression (n.Index left right) k d = over_two (top (below k)).start k d
+measure_expression (n.Select operator a member) k d = over (top k).start k d
+measure_expression n.NoStars k d = leaf 0 k d
+measure_expression (n.Star a) k d = star a.from k d
+measure_expression (n.Declared type name) k d = declared name.span.from k d
+measure_expression (n.Length length) k d = one_length k d
+measure_expression x k d = settle x k d
+
+-- a simple statement
+abbrev pub measure_simple : Node → List Level → Option ℕ → Levels
+measure_simple (n.Empty a) k d = leaf a.from k d
+measure_simple (n.Assign equals a) k d = leaf (top (below k)).start (below (below k)) d
+measure_simple (n.ReadPort equals port a) k d = leaf (top k).start (below k) d
+measure_simple (n.WritePort port equals a) k d = leaf port.from (below k) d
+measure_simple (n.CallAlone target function left right a) k d = leaf (call_start target function) k d
+measure_simple (n.Call target function left right a) k d = leaf (call_start target function) (below k) d
+measure_simple (n.Break word a) k d = leaf word.from k d
+measure_simple (n.Continue word a) k d = leaf word.from k d
+measure_simple (n.Return word a) k d = leaf word.from k d
+measure_simple (n.ReturnValue word a) k d = leaf word.from (below k) d
+measure_simple x k d = measure_expression x k d
+
+-- any node
 abbrev pub measure : Node → List Level → Option ℕ → Levels
-measure (n.Name name) k d = leaf name.span.from k d
-measure (n.Number number a) k d = leaf a.from k d
-measure (n.Parenthesis left right) k d = over left.from k d
-measure (n.Binary operator a) k d = over_two (top (below k)).start k d
-measure (n.Prefix operator a) k d = over a.from k d
-measure (n.Cast left type right) k d = over left.from k d
-measure (n.Index left right) k d = over_two (top (below k)).start k d
-measure (n.Select operator a member) k d = over (top k).start k d
-measure (n.Empty a) k d = leaf a.from k d
 measure n.NoStatements k d = leaf 0 k d
 measure n.Then k d = levels (level (max (top (below k)).depth (top k).depth) 0 ∷ below (below k)) d
 measure (n.Block left right) k d = over left.from k d
-measure (n.Assign equals a) k d = leaf (top (below k)).start (below (below k)) d
-measure (n.ReadPort equals port a) k d = leaf (top k).start (below k) d
-measure (n.WritePort port equals a) k d = leaf port.from (below k) d
-measure (n.CallAlone target function left right a) k d = leaf (call_start target function) k d
-measure (n.Call target function left right a) k d = leaf (call_start target function) (below k) d
 measure (n.If word left right) k d = node (top k).depth word.from (below (below k)) d
 measure (n.IfElse word left right a) k d = node (max (top (below k)).depth (top k).depth) word.from (below (below (below k))) d
 measure (n.While word left right) k d = node (top k).depth word.from (below (below k)) d
 measure (n.Do word while' left right a) k d = over word.from (below k) d
 measure (n.For middle right) k d = over middle.start.keyword.from k d
-measure (n.Break word a) k d = leaf word.from k d
-measure (n.Continue word a) k d = leaf word.from k d
-measure (n.Return word a) k d = leaf word.from k d
-measure (n.ReturnValue word a) k d = leaf word.from (below k) d
-measure n.NoStars k d = leaf 0 k d
-measure (n.Star a) k d = star a.from k d
-measure (n.Declared type name) k d = declared name.span.from k d
-measure (n.Length length) k d = one_length k d
-measure x k d = settle x k d
+measure x k d = measure_simple x k d
 
 -- of nodes, the newest first
 abbrev pub measured : List Node → Levels

@@ -1,6 +1,6 @@
 use Rattle.std.proofs.Common.{arith}
 use Rattle.clight_nesting.specs.Code.Views.{levels_of}
-use Rattle.clight_nesting.proofs.Depths.{no_levels, next_measured, nesting_of}
+use Rattle.clight_nesting.proofs.ItemDepths.{no_levels, next_measured, nesting_of}
 use Rattle.clight_nesting.proofs.nesting.nesting.Goals as goal
 
 pub loop-node-init : goal.loop-node-init
