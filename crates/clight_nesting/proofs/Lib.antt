@@ -2,3 +2,4 @@ pub mod FirstDeep
 pub mod Depths
 pub mod ItemDepths
 pub mod OneNesting
+mod NestingExamples

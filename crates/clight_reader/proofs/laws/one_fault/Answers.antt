@@ -1,4 +1,4 @@
-use Rattle.clight_reader.proofs.OneFault.{program_or_fault, one_fault}
+use Rattle.clight_grammar.proofs.OneFault.{program_or_fault, one_fault}
 use Rattle.clight_reader.proofs.laws.one_fault.Goals as goal
 
 pub returns-clause-either : goal.returns-clause-either

@@ -1,4 +1,4 @@
-use Rattle.clight_reader.proofs.OneNesting.{shallow_or_nested, one_nesting}
+use Rattle.clight_nesting.proofs.OneNesting.{shallow_or_nested, one_nesting}
 use Rattle.clight_reader.proofs.laws.one_nesting.Goals as goal
 
 pub returns-clause-either : goal.returns-clause-either
