@@ -24,7 +24,7 @@ use clight_source::tree::{Initialiser, Item};
 use std::alloc::Global;
 
 // A node of a declaration more.
-#[tactic(auto, using(clight_build::proofs::Pushes::pushes))]
+#[tactic(auto, using(crate::proofs::Pushes::pushes))]
 fn add_declared(alloc: Global, x: &mut Declarations, node: Node) -> Result<(), NoMemory>
     ensures { OnOk result (declarations_of x.new ≡ s.add_declared node (declarations_of x.old)) }
 {
@@ -45,7 +45,7 @@ fn add_declared(alloc: Global, x: &mut Declarations, node: Node) -> Result<(), N
 }
 
 // A node of a first value or of a header more.
-#[tactic(auto, using(clight_build::proofs::Pushes::pushes))]
+#[tactic(auto, using(crate::proofs::Pushes::pushes))]
 fn add_first(alloc: Global, x: &mut Declarations, node: Node) -> Result<(), NoMemory>
     ensures { OnOk result (declarations_of x.new ≡ s.add_first node (declarations_of x.old)) }
 {

@@ -22,7 +22,7 @@ use clight_source::tree::{
 use std::alloc::Global;
 
 /// One star more.
-#[tactic(auto, using(clight_build::proofs::Pushes::pushes))]
+#[tactic(auto, using(crate::proofs::Pushes::pushes))]
 pub fn star(stars: &mut Vec<Vec<Span>>, at: Span) -> Result<(), NoMemory>
     ensures { OnOk result (views spans_in stars.new.items ≡ s.star at (views spans_in stars.old.items)) }
 {
@@ -34,7 +34,7 @@ pub fn star(stars: &mut Vec<Vec<Span>>, at: Span) -> Result<(), NoMemory>
 }
 
 /// A name after its stars.
-#[tactic(auto, using(clight_build::proofs::Pushes::pushes))]
+#[tactic(auto, using(crate::proofs::Pushes::pushes))]
 pub fn declared(
     stars: &mut Vec<Vec<Span>>,
     declareds: &mut Vec<Declared>,
@@ -56,7 +56,7 @@ pub fn declared(
 }
 
 /// A declaration without lengths.
-#[tactic(auto, using(clight_build::proofs::Pushes::pushes))]
+#[tactic(auto, using(crate::proofs::Pushes::pushes))]
 pub fn no_lengths(
     alloc: Global,
     declareds: &mut Vec<Declared>,
@@ -76,7 +76,7 @@ pub fn no_lengths(
 }
 
 /// One length more.
-#[tactic(auto, using(clight_build::proofs::Pushes::pushes))]
+#[tactic(auto, using(crate::proofs::Pushes::pushes))]
 pub fn one_length(declarations: &mut Vec<Declaration>, length: Length) -> Result<(), NoMemory>
     ensures { OnOk result (views declaration_of declarations.new.items ≡ s.one_length length (views declaration_of declarations.old.items)) }
 {
@@ -92,7 +92,7 @@ pub fn one_length(declarations: &mut Vec<Declaration>, length: Length) -> Result
 }
 
 /// One member more.
-#[tactic(auto, using(clight_build::proofs::Pushes::pushes))]
+#[tactic(auto, using(crate::proofs::Pushes::pushes))]
 pub fn one_member(
     declarations: &mut Vec<Declaration>,
     members: &mut Vec<Vec<Member>>,
@@ -115,7 +115,7 @@ pub fn one_member(
 }
 
 /// One number of a list more.
-#[tactic(auto, using(clight_build::proofs::Pushes::pushes))]
+#[tactic(auto, using(crate::proofs::Pushes::pushes))]
 pub fn one_number(
     numbers: &mut Vec<Vec<EarlierNumber>>,
     number: SignedNumber,
@@ -131,7 +131,7 @@ pub fn one_number(
 }
 
 /// A list of numbers is the first value.
-#[tactic(auto, using(clight_build::proofs::Pushes::pushes))]
+#[tactic(auto, using(crate::proofs::Pushes::pushes))]
 pub fn listed(
     numbers: &mut Vec<Vec<EarlierNumber>>,
     initialisers: &mut Vec<Initialiser>,
@@ -153,7 +153,7 @@ pub fn listed(
 }
 
 /// One parameter more.
-#[tactic(auto, using(clight_build::proofs::Pushes::pushes))]
+#[tactic(auto, using(crate::proofs::Pushes::pushes))]
 pub fn one_parameter(
     declareds: &mut Vec<Declared>,
     parameters: &mut Vec<Vec<EarlierParameter>>,
@@ -176,7 +176,7 @@ pub fn one_parameter(
 }
 
 /// The header of a function without parameters.
-#[tactic(auto, using(clight_build::proofs::Pushes::pushes))]
+#[tactic(auto, using(crate::proofs::Pushes::pushes))]
 pub fn void_header(
     parameters: &mut Vec<Vec<EarlierParameter>>,
     declareds: &mut Vec<Declared>,
@@ -205,7 +205,7 @@ pub fn void_header(
 }
 
 /// The header of a function with parameters.
-#[tactic(auto, using(clight_build::proofs::Pushes::pushes))]
+#[tactic(auto, using(crate::proofs::Pushes::pushes))]
 pub fn one_header(
     declareds: &mut Vec<Declared>,
     parameters: &mut Vec<Vec<EarlierParameter>>,
@@ -236,7 +236,7 @@ pub fn one_header(
 }
 
 /// One local more.
-#[tactic(auto, using(clight_build::proofs::Pushes::pushes))]
+#[tactic(auto, using(crate::proofs::Pushes::pushes))]
 pub fn one_local(
     declarations: &mut Vec<Declaration>,
     locals: &mut Vec<Vec<Local>>,
@@ -260,7 +260,7 @@ pub fn one_local(
 }
 
 /// One local with a first value more.
-#[tactic(auto, using(clight_build::proofs::Pushes::pushes))]
+#[tactic(auto, using(crate::proofs::Pushes::pushes))]
 pub fn local_value(
     exprs: &mut Vec<Box<Expr>>,
     declarations: &mut Vec<Declaration>,

@@ -29,7 +29,7 @@ pub struct Declarations {
 }
 
 /// Nothing is there yet.
-#[tactic(auto, using(clight_build::proofs::Pushes::pushes))]
+#[tactic(auto, using(crate::proofs::Pushes::pushes))]
 pub fn no_declarations(alloc: Global) -> Declarations
     ensures { declarations_of result ≡ s.no_declarations }
 {
@@ -188,7 +188,7 @@ pub fn take_locals(locals: &mut Vec<Vec<Local>>) -> Option<Vec<Local>>
 }
 
 /// One item more.
-#[tactic(auto, using(clight_build::proofs::Pushes::pushes))]
+#[tactic(auto, using(crate::proofs::Pushes::pushes))]
 pub fn put_item(items: &mut Vec<Item>, x: Item) -> Result<(), NoMemory>
     ensures { OnOk result (items_in items.new.items ≡ items_in items.old.items ++ item_of x ∷ []) }
 {
