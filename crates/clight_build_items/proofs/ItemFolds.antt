@@ -10,8 +10,11 @@ use Rattle.clight_nodes.specs.declared.nodes.Node.TheVariants as n
 use Rattle.clight_nodes.specs.Code.States.{newest}
 use Rattle.clight_nodes.specs.Code.Declarations.{make_front}
 use Rattle.clight_nodes.specs.Code.Postfix.{onto, add_star, out_declared, add_length, out_declaration, add_member, add_number, out_initialiser, add_parameter, out_parameters, out_header, out_local, add_local, out_front, out_item, add_item, out_items}
-use Rattle.clight_nodes.proofs.Newest.{newest-push}
-use Rattle.clight_build_items.specs.Code.Stacks.{Whole, whole, declarations, make_header, add, added}
+use Rattle.clight_nodes.proofs.Newest.{newest-nil, newest-push}
+use Rattle.clight_source.specs.declared.tree.Item.{Item as CItem}
+use Rattle.clight_build.specs.Code.Stacks.{Stacks, no_stacks}
+use Rattle.clight_build_items.specs.Code.Views.{items_in}
+use Rattle.clight_build_items.specs.Code.Stacks.{Whole, whole, Declarations, declarations, no_declarations, make_header, add, added}
 use Rattle.clight_build_items.proofs.Folds.{push_expr, push_list, fold_expr, fold_stmts}
 
 -- ---- what is put on the stacks
@@ -73,7 +76,7 @@ fold_stars (a ∷ l) earlier z s h = fold_stars l (earlier ++ a ∷ []) (add_sta
 fold_declared : (x : Declared) (z : List Node) → added (out_declared x z) ≡ push_declared x (added z)
 fold_declared x z = ap (add (n.Declared x.specifiers x.name)) (fold_stars x.stars [] (n.NoStars ∷ z) (added z) refl)
 
-with_lengths : Declared → List Length → Declaration
+abbrev with_lengths : Declared → List Length → Declaration
 with_lengths x l = record { declared = x; lengths = l }
 
 fold_lengths : (l earlier : List Length) (x : Declared) (z : List Node) (s : Whole) → added z ≡ push_declaration (with_lengths x earlier) s
@@ -157,6 +160,11 @@ fold_items (x ∷ l) z =
     ∙ (ap (more_items l) (fold_item x z) ∙ ap (λ k. whole (added z).parts (added z).open_declarations k) (append_assoc (added z).items (x ∷ []) l))
 
 -- ---- the loop
+
+pub at_start : (x : Stacks) (d : Declarations) (l : List CItem) → x ≡ no_stacks → d ≡ no_declarations → l ≡ [] → whole x d (items_in l) ≡ added (newest [])
+at_start x d l h g e =
+    ap (λ y. whole y d (items_in l)) h
+    ∙ (ap (λ y. whole no_stacks y (items_in l)) g ∙ (ap (λ y. whole no_stacks no_declarations (items_in y)) e ∙ ap added (sym newest-nil)))
 
 pub next_added : (l : List Node) (i : ℕ) (d : Node) (x y : Whole) → i < length l → x ≡ added (newest (take i l)) → y ≡ add (get_or l i d) x → y ≡ added (newest (take (i + 1) l))
 next_added l i d x y h e g = g ∙ (ap (add (get_or l i d)) e ∙ ap added (sym (ap newest (take_more l i d h) ∙ newest-push (take i l) (get_or l i d))))

@@ -4,11 +4,11 @@ ghost use Rattle.std.specs.Prelude.{◌≡◌, ◌∷◌, IfOk};
 ghost use Rattle.clight_nodes.specs.Code.Statements as s;
 ghost use Rattle.clight_nodes.specs.Code.States.{newest, now};
 
-use crate::stack::{emit, pop, push, statement_in};
 use cerco_base::NoMemory;
 use clight_nodes::forms::Form;
 use clight_nodes::modes::{Mode, StatementMode};
 use clight_nodes::nodes::Node;
+use clight_nodes::stack::{emit, pop, push, statement_in};
 use clight_source::span::Span;
 
 // A statement joins what holds statements.

@@ -4,13 +4,13 @@ ghost use Rattle.std.specs.Prelude.{◌≡◌, IfOk, List};
 ghost use Rattle.clight_nodes.specs.Code.Expressions as s;
 ghost use Rattle.clight_nodes.specs.Code.States.{newest, now, state};
 
-use crate::operators::is_target;
-use crate::stack::{operand_in, operand_node, pop, push};
 use crate::words::{first_word, next_word};
 use cerco_base::NoMemory;
 use clight_nodes::forms::{Form, Place};
 use clight_nodes::modes::{Mode, Pending, StatementMode};
 use clight_nodes::nodes::Node;
+use clight_nodes::operators::is_target;
+use clight_nodes::stack::{operand_in, operand_node, pop, push};
 use clight_source::span::Span;
 use clight_source::symbol::{Symbol, Terminal};
 use clight_source::tree::{BinaryOperator, MemberOperator, Name, PrefixOperator, Specifiers};

@@ -5,7 +5,5 @@
 pub mod closing;
 pub mod expressions;
 pub mod marks;
-pub mod operators;
-pub mod stack;
 pub mod statements;
 pub mod words;

@@ -7,12 +7,12 @@ ghost use Rattle.clight_nodes.specs.Code.States.{newest, now};
 
 use crate::closing::finished;
 use crate::expressions::infix_at;
-use crate::operators::{binary_of, binds, settle};
-use crate::stack::{emit, emit_for, operand_in, operand_node, pop, statement_in, take};
 use cerco_base::NoMemory;
 use clight_nodes::forms::{ForMiddle, ForStart, Form, Place};
 use clight_nodes::modes::{Mode, Pending, StatementMode};
 use clight_nodes::nodes::Node;
+use clight_nodes::operators::{binary_of, binds, settle};
+use clight_nodes::stack::{emit, emit_for, operand_in, operand_node, pop, statement_in, take};
 use clight_source::span::Span;
 use clight_source::symbol::{Symbol, Terminal};
 use clight_source::tree::{CallTarget, MemberOperator};

@@ -7,12 +7,12 @@ ghost use Rattle.clight_nodes.specs.Code.States.{newest, now, state};
 
 use crate::closing::{else_arm, finished, flush};
 use crate::expressions::operand;
-use crate::stack::{emit, emit_for, operand_in, pop, push, statement_in};
 use crate::words::first_word;
 use cerco_base::NoMemory;
 use clight_nodes::forms::{ForMiddle, ForStart, Form, Place};
 use clight_nodes::modes::{DeclarationMode, Mode, Owner, Pending, StatementMode};
 use clight_nodes::nodes::Node;
+use clight_nodes::stack::{emit, emit_for, operand_in, pop, push, statement_in};
 use clight_source::span::Span;
 use clight_source::symbol::{Symbol, Terminal};
 use clight_source::tree::{CallTarget, Name, Specifiers};

@@ -10,7 +10,7 @@ use cerco_base::NoMemory;
 use clight_nodes::forms::Form;
 use clight_nodes::modes::{DeclarationMode, InitialiserMode, Mode, Owner, StructFront};
 use clight_nodes::nodes::Node;
-use clight_recognise::stack::{emit, emit_for, operand_alone, statement_alone};
+use clight_nodes::stack::{emit, emit_for, operand_alone, statement_alone};
 use clight_recognise::words::{first_word, next_word};
 use clight_source::span::Span;
 use clight_source::symbol::{Literal, Symbol, Terminal};

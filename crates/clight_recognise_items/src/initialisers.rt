@@ -8,7 +8,7 @@ use cerco_base::NoMemory;
 use clight_nodes::forms::Form;
 use clight_nodes::modes::{DeclarationMode, InitialiserMode, Mode};
 use clight_nodes::nodes::Node;
-use clight_recognise::stack::emit_for;
+use clight_nodes::stack::emit_for;
 use clight_source::span::Span;
 use clight_source::symbol::{Literal, Symbol, Terminal};
 use clight_source::tree::SignedNumber;

@@ -3,10 +3,10 @@
 ghost use Rattle.std.specs.Prelude.{◌≡◌, ◌∷◌, [], ◌≤◌, ◌+◌, length, OnOk, IfOk, MatchOption};
 ghost use Rattle.clight_nodes.specs.Code.States.{newest};
 
+use crate::forms::Form;
+use crate::modes::{Mode, StatementMode};
+use crate::nodes::Node;
 use cerco_base::NoMemory;
-use clight_nodes::forms::Form;
-use clight_nodes::modes::{Mode, StatementMode};
-use clight_nodes::nodes::Node;
 
 /// Opens a form.
 pub fn push(forms: &mut Vec<Form>, form: Form) -> Result<(), NoMemory>

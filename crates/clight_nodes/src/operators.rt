@@ -5,10 +5,10 @@ ghost use Rattle.clight_source.specs.Spelling as g;
 ghost use Rattle.clight_nodes.specs.Code.Expressions as s;
 ghost use Rattle.clight_nodes.specs.Code.States.{newest};
 
+use crate::forms::Form;
+use crate::nodes::Node;
 use crate::stack::{emit, pop, push};
 use cerco_base::NoMemory;
-use clight_nodes::forms::Form;
-use clight_nodes::nodes::Node;
 use clight_source::symbol::Symbol;
 use clight_source::tree::BinaryOperator;
 
