@@ -16,9 +16,9 @@ use Rattle.clight_check.proofs.SoundnessLaws as sound
 use Rattle.clight_tokens.proofs.Unique.{one_list}
 use Rattle.clight_tokens.proofs.OneAnswer as answer
 use Rattle.clight_reader.specs.Reasons.{token_start, HasNoTree, HasReason}
-use Rattle.clight_reader.proofs.Programs.{one_program}
-use Rattle.clight_reader.proofs.OneFault as fault
-use Rattle.clight_reader.proofs.OneNesting.{one_nesting, not_shallow}
+use Rattle.clight_grammar.proofs.Programs.{one_program}
+use Rattle.clight_grammar.proofs.OneFault as fault
+use Rattle.clight_nesting.proofs.OneNesting.{one_nesting, not_shallow}
 use Rattle.plain_programs.specs.PlainPrograms.{plain_program}
 use Rattle.cerco_command.specs.PlainPrograms.{IsOtherProgram}
 use Rattle.cerco_command.specs.Building.{IsCompiled, HasFirstReason, SaysRefused}

@@ -6,7 +6,7 @@ use Rattle.cerco_base.specs.declared.reasons.Reason.TheVariants as r
 use Rattle.clight_source.specs.declared.symbol.Terminal.{Terminal}
 use Rattle.clight_tokens.specs.Symbols.{names_of, terminal_of, terminals_of}
 use Rattle.clight_tokens.specs.Tokens.{Token, Tokenised}
-use Rattle.clight_reader.specs.Faults.{FaultAt}
+use Rattle.clight_grammar.specs.Faults.{FaultAt}
 use Rattle.clight_reader.specs.Reasons.{HasNoTree}
 
 abbrev pub starts : List Terminal → List ℕ
@@ -21,11 +21,11 @@ within [] i n t h = cc
 within (x ∷ l) zero n t h = cc
 within (x ∷ l) (suc i) n t h = within l i n t h
 
-pub behind : (l : List Terminal) (i n : ℕ) → slice_get l i ≡ None → n ≡ slice_index_or (starts l) i n
-behind [] zero n h = refl
-behind [] (suc i) n h = refl
-behind (x ∷ l) zero n h = cc
-behind (x ∷ l) (suc i) n h = behind l i n h
+pub after : (l : List Terminal) (i n : ℕ) → slice_get l i ≡ None → n ≡ slice_index_or (starts l) i n
+after [] zero n h = refl
+after [] (suc i) n h = refl
+after (x ∷ l) zero n h = cc
+after (x ∷ l) (suc i) n h = after l i n h
 
 pub syntax_fault : (t : Tokenised) (symbols : List Terminal) (i at length : ℕ) → symbols ≡ terminals_of t.tokens → length ≡ t.length → at ≡ slice_index_or (starts symbols) i length
     → FaultAt symbols i → HasNoTree t (Refused (r.Syntax at))

@@ -1,3 +1,2 @@
-pub mod Faults
-pub mod Readings
 pub mod Reasons
+pub mod Code

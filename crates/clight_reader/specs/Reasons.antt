@@ -10,13 +10,13 @@ use Rattle.clight_source.specs.Spelling.{Spells}
 use Rattle.clight_tokens.specs.Symbols.{terminals_of}
 use Rattle.clight_tokens.specs.Tokens.{Token, Tokenised, HasTokens, HasFault}
 use Rattle.clight_source.specs.Trees.{Item}
-use Rattle.clight_reader.specs.Faults.{FaultAt}
+use Rattle.clight_grammar.specs.Faults.{FaultAt}
 
 -- where the i-th token begins, or the text's length where there is none
 abbrev pub token_start : Tokenised → ℕ → ℕ
 token_start t i = slice_index_or (map (λ x. x.span.from) t.tokens) i t.length
 
--- why tokens spell no tree within the limits. Of want of memory nothing is said
+-- why tokens spell no tree within the limits. Where there is no memory nothing is said
 abbrev pub HasNoTree : Tokenised → Fault → Type 0
 HasNoTree t OutOfMemory = Unit {0}
 HasNoTree t (Refused (r.Syntax at)) = (i : ℕ) × FaultAt (terminals_of t.tokens) i × (at ≡ token_start t i)

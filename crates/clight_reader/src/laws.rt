@@ -5,16 +5,14 @@ ghost use Rattle.clight_source.specs.declared.symbol.Terminal.{Terminal};
 ghost use Rattle.clight_source.specs.Trees.{Item};
 ghost use Rattle.clight_source.specs.Spelling.{Spells};
 ghost use Rattle.clight_source.specs.Depth.{IsShallow, IsFirstDeep};
-ghost use Rattle.clight_reader.specs.Faults.{FaultAt};
+ghost use Rattle.clight_grammar.specs.Faults.{FaultAt};
 
 /// Terminal symbols spell at most one list of items.
-#[tactic(auto, using(crate::proofs::Programs::one_program))]
 pub fn one_program()
     ensures { (l : List Terminal) → (items others : List Item) → Spells items l → Spells others l → items ≡ others }
 {}
 
 /// Terminal symbols spell items or have a fault, not both, and the fault has one place.
-#[tactic(auto, using(crate::proofs::OneFault::not_both))]
 pub fn one_fault()
     ensures either { (l : List Terminal) → ((items : List Item) × Spells items l) ⊎ ((i : ℕ) × FaultAt l i) }
     ensures not_both { (l : List Terminal) → (items : List Item) → (i : ℕ) → Spells items l → FaultAt l i → ⊥ }
@@ -22,7 +20,6 @@ pub fn one_fault()
 {}
 
 /// In a program no node is too deep, or one of those that are is the first, not both, and it has one place.
-#[tactic(auto, using(crate::proofs::OneNesting::not_shallow))]
 pub fn one_nesting()
     ensures either { (items : List Item) → IsShallow items ⊎ ((at : ℕ) × IsFirstDeep items at) }
     ensures not_both { (items : List Item) → (at : ℕ) → IsShallow items → IsFirstDeep items at → ⊥ }

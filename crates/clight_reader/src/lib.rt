@@ -2,8 +2,8 @@
 #![tactic(auto)]
 
 pub mod laws;
-pub mod machine;
 pub mod program;
 pub mod reading;
 
+pub use clight_tokens::{Token, TokenList, tokens};
 pub use program::parse;

@@ -5,7 +5,7 @@ ghost use Rattle.clight_tokens.specs.SourceTrees.{IsTreeOf};
 ghost use Rattle.clight_tokens.specs.Symbols.{terminals_of};
 ghost use Rattle.clight_tokens.specs.Tokens.{Tokenised};
 ghost use Rattle.clight_source.specs.Code.Views.{program_of};
-ghost use Rattle.clight_reader.specs.Readings.{IsFault};
+ghost use Rattle.clight_reader.specs.Code.Readings.{IsFault};
 ghost use Rattle.clight_reader.specs.Reasons.{HasNoTree};
 
 use crate::reading::{ParseFault, parse_terminals};
@@ -14,7 +14,7 @@ use clight_source::{Program, Span, Terminal};
 use clight_tokens::{TerminalList, TokenList, terminals};
 use std::alloc::Global;
 
-/// Where a terminal symbol begins, or the text's length behind the last one.
+/// Where a terminal symbol begins, or the text's length after the last one.
 fn place(symbols: &[Terminal], i: usize, length: u32) -> u32
     ensures { result ≡ slice_index_or (map (λ t. t.span.from) symbols.now) i length }
 {

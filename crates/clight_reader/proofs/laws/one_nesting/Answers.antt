@@ -1,8 +1,11 @@
-use Rattle.clight_reader.proofs.OneNesting.{shallow_or_nested, one_nesting}
+use Rattle.clight_nesting.proofs.OneNesting as p
 use Rattle.clight_reader.proofs.laws.one_nesting.Goals as goal
 
 pub returns-clause-either : goal.returns-clause-either
-returns-clause-either c = shallow_or_nested
+returns-clause-either c = p.shallow_or_nested
+
+pub returns-clause-not_both : goal.returns-clause-not_both
+returns-clause-not_both c = p.not_shallow
 
 pub returns-clause-one_place : goal.returns-clause-one_place
-returns-clause-one_place c = one_nesting
+returns-clause-one_place c = p.one_nesting

@@ -1,5 +1,5 @@
 use Rattle.std.proofs.Common.{subst, sym, ◌∙◌}
-use Rattle.clight_reader.specs.Readings.{IsFault}
+use Rattle.clight_reader.specs.Code.Readings.{IsFault}
 use Rattle.clight_reader.proofs.program.parse.Goals as goal
 
 pub returns-in-Err-clause-fault : goal.returns-in-Err-clause-fault

@@ -1,5 +1,5 @@
 use Rattle.std.proofs.Common.{subst}
-use Rattle.clight_reader.specs.Readings.{IsFault}
+use Rattle.clight_reader.specs.Code.Readings.{IsFault}
 use Rattle.clight_reader.proofs.Places.{syntax_fault}
 use Rattle.clight_reader.proofs.program.refusal.Goals as goal
 

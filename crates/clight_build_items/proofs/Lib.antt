@@ -1,0 +1,4 @@
+pub mod Pushes
+pub mod Folds
+pub mod ItemFolds
+pub mod Insides

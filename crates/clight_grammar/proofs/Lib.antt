@@ -1,0 +1,21 @@
+pub mod Lists
+pub mod FlatExpressions
+pub mod FlatStatements
+pub mod FlatDeclarations
+pub mod FlatSteps
+pub mod ReadExpressions
+pub mod ReadStatements
+pub mod ReadItems
+pub mod OpenForms
+pub mod GrammarExpressions
+pub mod GrammarStatements
+pub mod GrammarDeclarations
+pub mod KeepsGrammar
+pub mod SpellingExpressions
+pub mod SpellingStatements
+pub mod SpellingDeclarations
+pub mod KeepsSpelling
+pub mod Continues
+pub mod Programs
+pub mod OneFault
+mod Examples

@@ -1,0 +1,5 @@
+pub mod FirstDeep
+pub mod Depths
+pub mod ItemDepths
+pub mod OneNesting
+mod NestingExamples

@@ -1,0 +1,10 @@
+use Rattle.std.proofs.Common.{◌≡◌, vec_len}
+use Rattle.clight_nodes.specs.Code.Expressions.{settle}
+use Rattle.clight_nodes.specs.Code.States.{newest}
+use Rattle.clight_nodes.proofs.operators.settle.Given as goal
+
+abbrev pub invariant-loop-form : goal.invariant-loop-form
+invariant-loop-form l = settle l.least (newest l.forms.items) (newest l.nodes.items) ≡ settle l.least (newest l.fn.forms.items) (newest l.fn.nodes.items)
+
+abbrev pub decreases-loop-form : goal.decreases-loop-form
+decreases-loop-form l = vec_len l.forms
