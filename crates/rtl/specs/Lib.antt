@@ -1,0 +1,16 @@
+pub mod Locations
+pub mod Operations
+pub mod Programs
+pub mod Items
+pub mod Effects
+pub mod Graphs
+pub mod Meaning
+pub mod Linear
+pub mod LiveSets
+pub mod Liveness
+pub mod StrongLiveness
+pub mod CallingConvention
+pub mod WellFormed
+pub mod Interference
+pub mod Lengths
+pub mod Code
