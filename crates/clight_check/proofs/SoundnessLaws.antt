@@ -7,7 +7,7 @@ use Rattle.cerco_base.specs.declared.reasons.Reason.TheVariants as r
 use Rattle.clight_source.specs.Trees.{Program}
 use Rattle.clight_syntax.specs.TypedTrees.{TypedProgram}
 use Rattle.clight_names.specs.NameFaults.{NameFault, first_name_fault, name_fault}
-use Rattle.clight_typing.specs.TypedExpressions.{Checked, fault}
+use Rattle.clight_types.specs.TypedExpressions.{Checked, fault}
 use Rattle.clight_typing.specs.TypedPrograms.{typed_program}
 use Rattle.clight_layout.specs.Layout.{IsLayout}
 use Rattle.clight_layout.specs.Outcomes.{IsReason}

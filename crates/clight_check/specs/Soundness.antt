@@ -10,7 +10,7 @@ use Rattle.clight_tokens.specs.SourceTrees.{IsSourceTree}
 use Rattle.clight_source.specs.Trees.{Program}
 use Rattle.clight_syntax.specs.TypedTrees.{TypedProgram}
 use Rattle.clight_names.specs.NameFaults.{first_name_fault, name_fault}
-use Rattle.clight_typing.specs.TypedExpressions.{fault}
+use Rattle.clight_types.specs.TypedExpressions.{fault}
 use Rattle.clight_typing.specs.TypedPrograms.{typed_program}
 use Rattle.clight_layout.specs.Layout.{IsLayout}
 use Rattle.clight_layout.specs.Outcomes.{IsReason}

@@ -6,7 +6,8 @@ use Rattle.clight_source.specs.declared.tree.Specifiers.TheVariants as t
 use Rattle.clight_syntax.specs.declared.typed.Home.{Home}
 use Rattle.clight_syntax.specs.declared.typed.Home.TheVariants as h
 use Rattle.clight_source.specs.Trees.{NoParameters}
-use Rattle.c_types.specs.Types.{CType, Void, Integer, Pointer, Array, One, Two}
+use Rattle.c_types.specs.declared.integers.Size.TheVariants.{One, Two}
+use Rattle.c_types.specs.Types.{CType, Void, Integer, Pointer, Array}
 use Rattle.clight_syntax.specs.TypedTrees.{Stmt, Block, CallOf, Stmts, NoStmts, Then, NoArguments, Function, Variable'}
 use Rattle.clight_layout.specs.declared.sizes.Area.TheVariants.{Globals}
 use Rattle.clight_layout.specs.Calls.{callees}

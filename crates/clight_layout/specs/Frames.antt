@@ -1,10 +1,10 @@
 -- How many bytes the globals and the frames of functions have in external RAM, and where variables lie in them: one after the other,
 -- in the order of their declarations.
-use Rattle.std.specs.Prelude.{ℕ, ◌+◌, Bool, true, false, List, [], ◌∷◌, ◌++◌, length, take, drop, if◌then◌else◌}
+use Rattle.std.specs.Prelude.{ℕ, ◌+◌, Bool, true, false, List, [], ◌∷◌, ◌++◌, take, drop, if◌then◌else◌}
 use Rattle.clight_syntax.specs.declared.typed.Home.{Home}
 use Rattle.clight_syntax.specs.declared.typed.Home.TheVariants as h
 use Rattle.c_types.specs.Types.{StructType, size_of}
-use Rattle.clight_syntax.specs.TypedTrees.{Function, Variable'}
+use Rattle.clight_syntax.specs.TypedTrees.{Function, Variable', own_count, own_variables}
 use Rattle.clight_layout.specs.declared.sizes.Area.{Area}
 use Rattle.clight_layout.specs.declared.sizes.Area.TheVariants.{Globals, Frame}
 
@@ -29,13 +29,6 @@ at_address address x = record x { address = address }
 abbrev pub placed : Area → List StructType → ℕ → List Variable' → List Variable'
 placed area structs at [] = []
 placed area structs at (x ∷ rest) = (if lies_in area x.home then at_address at x else x) ∷ placed area structs (at + room_of area structs x) rest
-
--- a function's parameters and locals
-abbrev pub own_count : {L : Type 0} → Function L → ℕ
-own_count f = f.parameters + length f.locals
-
-abbrev pub own_variables : {L : Type 0} → Function L → List Variable' → List Variable'
-own_variables f variables = take (own_count f) (drop f.first_variable variables)
 
 abbrev pub frame_bytes : {L : Type 0} → List StructType → List Variable' → Function L → ℕ
 frame_bytes structs variables f = bytes_of Frame structs (own_variables f variables)

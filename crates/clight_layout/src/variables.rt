@@ -1,12 +1,14 @@
 //! The addresses of variables.
 ghost use Rattle.std.specs.Prelude.{◌≡◌, ◌≤◌, ◌++◌, length, take, drop, map, OnOk, if◌then◌else◌};
 ghost use Rattle.clight_layout.specs.declared.sizes.Area.TheVariants.{Frame};
-ghost use Rattle.clight_syntax.specs.Code.TypedViews.{struct_type_of, variable_of, function_of};
+ghost use Rattle.c_types.specs.Types.{struct_type_of};
+ghost use Rattle.clight_syntax.specs.Code.TypedViews.{variable_of, function_of};
 ghost use Rattle.clight_layout.specs.Frames.{lies_in as lies_in_lem, at_address, placed, with_frame as with_frame_lem, with_frames as with_frames_lem};
 
-use crate::sizes::{Area, lies_in, own_count, room_of};
+use crate::sizes::{Area, lies_in, room_of};
+use c_types::StructType;
 use cerco_base::NoMemory;
-use clight_syntax::typed::{Function, StructType, Variable};
+use clight_syntax::typed::{Function, Variable};
 
 // Gives a variable its address, if it lies in the area.
 fn set_address(area: Area, at: u32, x: &mut Variable) -> Result<(), NoMemory>
@@ -80,7 +82,7 @@ fn place_frame(
     ensures { OnOk result (map variable_of variables.new ≡ with_frame_lem (map struct_type_of structs.now) (function_of function.now) from (map variable_of variables.old)) }
 {
     let first = (function.first_variable as usize).min(variables.len());
-    let count = own_count(function).min(variables.len() - first);
+    let count = function.own_count().min(variables.len() - first);
     place_from(structs, first, count, from, variables)?;
     Ok(())
 }

@@ -3,7 +3,6 @@ pub mod Examples
 pub mod Agreeing
 pub mod Moving
 pub mod Weights
-pub mod Windows
 pub mod Lists
 pub mod Stacks
 pub mod Telling

@@ -11,7 +11,7 @@ use Rattle.clight_meaning.specs.declared.calls.Missing.TheVariants as missing
 use Rattle.clight_values.specs.Memory.{Answer, State, initial}
 use Rattle.clight_meaning.specs.Expressions.{value}
 use Rattle.clight_meaning.specs.Meaning.{initials, joined, argument_values, converted_answer, variable_type}
-use Rattle.clight_values.specs.Memory.{is_scalar}
+use Rattle.c_types.specs.Kinds.{is_scalar}
 use Rattle.clight_meaning.specs.Missing.{MayMiss, AddsArgument}
 use Rattle.clight_values.proofs.Walks.{opened}
 use Rattle.clight_values.specs.Views.{variables_held}

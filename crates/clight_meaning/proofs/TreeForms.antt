@@ -16,7 +16,8 @@ use Rattle.clight_syntax.specs.declared.typed.Home.{Home}
 use Rattle.clight_syntax.specs.declared.typed.ResultTarget.{ResultTarget}
 use Rattle.c_types.specs.Conversions.{unsigned_char, unsigned_int}
 use Rattle.clight_source.specs.Trees as tree
-use Rattle.c_types.specs.Types.{One, CType, Void, Integer, Pointer, StructType}
+use Rattle.c_types.specs.declared.integers.Size.TheVariants.{One}
+use Rattle.c_types.specs.Types.{CType, Void, Integer, Pointer, StructType}
 use Rattle.clight_syntax.specs.TypedTrees as t
 
 abbrev pub nowhere : Span

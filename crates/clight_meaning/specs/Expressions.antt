@@ -13,7 +13,8 @@ use Rattle.clight_syntax.specs.TypedTrees.{Expr, Variable, Number, Parenthesis, 
 use Rattle.clight_values.specs.declared.value.Value.{Value}
 use Rattle.clight_values.specs.declared.value.Value.TheVariants as v
 use Rattle.clight_values.specs.Memory.{Answer, Memory, Frame, State, load, stored, moved}
-use Rattle.clight_values.specs.Operators.{integer_type, is_array, assigned_value, then_value, both, operated, negated, complemented, indexed}
+use Rattle.c_types.specs.Kinds.{integer_type, is_array}
+use Rattle.clight_values.specs.Operators.{assigned_value, then_value, both, operated, negated, complemented, indexed}
 
 -- ---- places
 

@@ -1,7 +1,7 @@
 -- The meaning of a labelled program (ISO/IEC 9899:1999, 5.1.2.3 and 6.8, with the cost labels of CerCo, deliverable 2.1): what is
 -- told of its run on a port script, for each budget of labels. A run passes at most so many labels: it stops where the next one is
 -- due, or `main` returns, or it meets a fault. A statement is given what goes on after it, by the way in which it is left.
-use Rattle.std.specs.Prelude.{ℕ, zero, suc, ◌+◌, Bool, true, false, List, [], ◌∷◌, ◌++◌, length, take, drop, map, Option, Some, None, Result, Ok, Err, if◌then◌else◌, slice_get}
+use Rattle.std.specs.Prelude.{ℕ, zero, suc, ◌+◌, Bool, true, false, List, [], ◌∷◌, ◌++◌, length, drop, map, Option, Some, None, Result, Ok, Err, if◌then◌else◌, slice_get}
 use Rattle.cerco_base.specs.Events.{Stopped, Ended, next_reading}
 use Rattle.cerco_traces.specs.Preservation.{Outcome, Stops, Faults, Source, and_then}
 use Rattle.cerco_base.specs.declared.events.Event.{Event}
@@ -16,10 +16,11 @@ use Rattle.clight_syntax.specs.declared.typed.ResultTarget.{ResultTarget}
 use Rattle.clight_source.specs.Trees.{Global}
 use Rattle.c_types.specs.Conversions.{unsigned_char}
 use Rattle.c_types.specs.Types.{CType, Void}
-use Rattle.clight_syntax.specs.TypedTrees.{Expr, type_at, Cond, Truth, InParentheses, Not, Both, Either, Assignment, EarlierArgument, Arguments, NoArguments, Arguments', Stmt, Empty, Block, Assign, ReadPort, WritePort, CallOf, If, IfElse, While, Do, For, Break, Continue, Return, Stmts, NoStmts, Then, LocalInitialiser, NoValue, Value, Local, Function, Item, StructItem, GlobalItem, PrototypeItem, FunctionItem, Variable', TypedProgram}
+use Rattle.clight_syntax.specs.TypedTrees.{Expr, type_at, Cond, Truth, InParentheses, Not, Both, Either, Assignment, EarlierArgument, Arguments, NoArguments, Arguments', Stmt, Empty, Block, Assign, ReadPort, WritePort, CallOf, If, IfElse, While, Do, For, Break, Continue, Return, Stmts, NoStmts, Then, LocalInitialiser, NoValue, Value, Local, Function, Item, StructItem, GlobalItem, PrototypeItem, FunctionItem, Variable', TypedProgram, own_variables}
 use Rattle.clight_values.specs.declared.value.Value as w
 use Rattle.clight_values.specs.declared.value.Value.TheVariants as v
-use Rattle.clight_values.specs.Memory.{is_scalar, own_blocks, Answer, Cell, Memory, kinds_of, initial, is_true, with_blocks, left, Frame, State}
+use Rattle.c_types.specs.Kinds.{is_scalar}
+use Rattle.clight_values.specs.Memory.{own_blocks, Answer, Cell, Memory, kinds_of, initial, is_true, with_blocks, left, Frame, State}
 use Rattle.clight_values.specs.Globals.{filled, numbers_of}
 use Rattle.clight_values.specs.Operators.{then_value, assigned_value}
 use Rattle.clight_meaning.specs.Expressions.{Position, home_position, variable_position, stored_in, position, value}
@@ -164,10 +165,6 @@ parameter_in (Some f) = f.first_variable
 abbrev pub first_parameter : {L : Type 0} → TypedProgram L → ℕ → ℕ
 first_parameter p f = parameter_in (slice_get p.functions f)
 
--- the parameters and locals of a function, in order
-abbrev pub own_variables : {L : Type 0} → TypedProgram L → Function L → List Variable'
-own_variables p f = take (f.parameters + length f.locals) (drop f.first_variable p.variables)
-
 -- the first values of the scalars among some variables
 abbrev pub initials : List Variable' → List w.Value
 initials [] = []
@@ -176,7 +173,7 @@ initials (x ∷ xs) = if is_scalar x.type then initial x.type ∷ initials xs el
 -- a call of a function begins with these arguments: it has fresh blocks and scalars
 abbrev pub entered : {L : Type 0} → TypedProgram L → Function L → List w.Value → State → State
 entered p f ws st = record {
-  memory = with_blocks st.made (own_blocks p.structs (own_variables p f)) st.memory;
+  memory = with_blocks st.made (own_blocks p.structs (own_variables f p.variables)) st.memory;
   made = suc st.made;
   frame = record {
     blocks = length st.memory.blocks;
@@ -184,7 +181,7 @@ entered p f ws st = record {
     call = st.made;
     depth = suc st.frame.depth;
     result = f.result;
-    scalars = ws ++ drop (length ws) (initials (own_variables p f));
+    scalars = ws ++ drop (length ws) (initials (own_variables f p.variables));
   };
   script = st.script;
 }
@@ -215,7 +212,7 @@ initialised p (l ∷ ls) n st = then_state (initialised_by p n l.initialiser st)
 
 -- what comes before the statements of a function's body
 abbrev pub prepared : {L : Type 0} → TypedProgram L → Function L → State → Result State FaultKind
-prepared p f st = then_state (homed (own_variables p f) 0 st) (initialised p f.locals (f.first_variable + f.parameters))
+prepared p f st = then_state (homed (own_variables f p.variables) 0 st) (initialised p f.locals (f.first_variable + f.parameters))
 
 abbrev pub result_in : {L : Type 0} → Option (Function L) → CType
 result_in None = Void

@@ -1,5 +1,5 @@
 //! How a call begins and ends.
-ghost use Rattle.std.specs.Prelude.{◌≡◌, ℕ, ◌+◌, ◌++◌, ◌<◌, ◌^◌, drop, length, map, take, IfOk, OnOk, MatchResult, Ok};
+ghost use Rattle.std.specs.Prelude.{◌≡◌, ℕ, ◌+◌, ◌++◌, ◌<◌, ◌^◌, drop, length, map, IfOk, OnOk, MatchResult, Ok};
 ghost use Rattle.c_types.specs.Types.{type_of};
 ghost use Rattle.clight_syntax.specs.Code.TypedViews.{arguments_of, expr_of, function_of, local_of, local_initialiser_of, program_of};
 ghost use Rattle.clight_syntax.specs.TypedTrees.{type_at};
@@ -12,30 +12,16 @@ ghost use Rattle.clight_meaning.specs.Views.{frame_held, state_held};
 
 use crate::state::{Frame, State, type_at};
 use crate::statements::{converted_to, variable_type};
+use c_types::{StructType, Ty};
 use cerco_base::{FaultKind, Label, NoMemory};
-use c_types::Ty;
 use clight_syntax::typed::{
-    Arguments, Expr, Function, Home, Local, LocalInitialiser, StructType, TypedProgram, Variable,
+    Arguments, Expr, Function, Home, Local, LocalInitialiser, TypedProgram, Variable,
 };
-use clight_values::lookup::{first_items, item_at, items_from};
-use clight_values::memory::{Memory, initial, is_scalar};
+use clight_values::lookup::{item_at, items_from};
+use clight_values::memory::{Memory, initial};
 use clight_values::value::Value;
 use std::alloc::Global;
 use std::mem;
-
-/// The parameters and locals of a function.
-pub(crate) fn own_variables<'p>(
-    program: &'p TypedProgram<Label>,
-    function: &Function<Label>,
-) -> &'p [Variable]
-    ensures { variables_held result.now ≡ n.own_variables (program_of program.now) (function_of function.now) }
-{
-    let variables = items_from(&program.variables, function.first_variable as usize);
-    let parameters = first_items(variables, function.parameters as usize);
-    let more = items_from(variables, parameters.len());
-    let locals = first_items(more, function.locals.len());
-    first_items(variables, parameters.len() + locals.len())
-}
 
 /// Why there are no values.
 #[derive(Clone, Copy)]
@@ -50,7 +36,7 @@ fn initials(alloc: Global, variables: &[Variable]) -> Result<Vec<Value>, NoMemor
 {
     let mut values = Vec::new(alloc);
     for variable in variables {
-        if is_scalar(&variable.ty) {
+        if variable.ty.is_scalar() {
             values.push(initial(&variable.ty))?;
         }
     }
@@ -172,7 +158,7 @@ impl<'a> State<'a> {
     {
         let mut number = 0;
         for variable in variables {
-            if is_scalar(&variable.ty) {
+            if variable.ty.is_scalar() {
                 let value = item_at(&self.frame.scalars, number).copied();
                 self.home(variable, value)?;
                 number += 1;
@@ -206,7 +192,7 @@ impl<'a> State<'a> {
     ) -> Result<(), FaultKind>
         ensures { Makes (n.prepared (program_of program.now) (function_of function.now) (state_held self.old)) (state_held self.new) result }
     {
-        self.home_all(own_variables(program, function))?;
+        self.home_all(function.own_variables(&program.variables))?;
         let first = function.first_variable as usize + function.parameters as usize;
         self.initialise_all(program, &function.locals, first)
     }
@@ -222,7 +208,7 @@ impl<'a> State<'a> {
         ensures state { OnOk result (state_held self.new ≡ n.entered (program_of program.now) (function_of function.now) arguments.items (state_held self.old)) }
         ensures frame { IfOk result (λ frame. frame_held frame ≡ frame_held self.old.frame) }
     {
-        let variables = own_variables(program, function);
+        let variables = function.own_variables(&program.variables);
         let scalars = scalars_of(alloc, variables, arguments)?;
         let Ok(blocks) = u32::try_from(self.memory.blocks()) else {
             return Err(NoMemory);

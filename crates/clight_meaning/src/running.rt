@@ -19,13 +19,13 @@ use crate::calls::Missing;
 use crate::state::{Frame, State, type_at};
 use crate::statements::{converted_to, initial_of};
 use crate::turn::Turn;
+use c_types::{IntegerType, Ty};
 use cerco_base::{Event, FaultKind, Label, NoMemory, Port};
-use c_types::Ty;
 use clight_syntax::typed::{
     Assignment, Call, Cond, Expr, ForHead, Function, ResultTarget, Stmt, Test, TypedProgram,
 };
+use clight_values::integer::low_byte;
 use clight_values::lookup::item_at;
-use clight_values::operators::integer_type;
 use clight_values::value::Value;
 use std::alloc::Global;
 
@@ -390,10 +390,10 @@ fn port_byte(from: &Ty, value: Result<Value, FaultKind>) -> Result<u8, FaultKind
 {
     match value {
         Err(kind) => Err(kind),
-        Ok(value) => match integer_type(from) {
+        Ok(value) => match IntegerType::of(from) {
             None => Err(FaultKind::Outside),
             Some(source) => match value {
-                Value::Integer(bits) => Ok(source.low_byte(bits)),
+                Value::Integer(bits) => Ok(low_byte(source, bits)),
                 _ => Err(FaultKind::Outside),
             },
         },

@@ -1,22 +1,23 @@
 //! The state of a run, and the values of expressions in it.
 ghost use Rattle.std.specs.Prelude.{◌≡◌, ℕ, ◌^◌, min, slice_get, unwrap_or, false};
+ghost use Rattle.c_types.specs.Kinds.{integer_type};
 ghost use Rattle.c_types.specs.Types.{type_of, size_of};
 ghost use Rattle.clight_syntax.specs.Code.TypedViews.{expr_of, program_of};
 ghost use Rattle.clight_syntax.specs.TypedTrees.{type_at};
 ghost use Rattle.clight_values.specs.Memory as m;
 ghost use Rattle.clight_values.specs.Operators as o;
 ghost use Rattle.clight_meaning.specs.Expressions as e;
-ghost use Rattle.clight_values.specs.Views.{Becomes, integer_held, integers_held, variables_held, memory_held, structs_held};
+ghost use Rattle.clight_values.specs.Views.{Becomes, variables_held, memory_held, structs_held};
 ghost use Rattle.clight_meaning.specs.Views.{frame_held, position_held, positions_held, state_held};
 
+use c_types::{IntegerType, StructType, Ty};
 use cerco_base::{FaultKind, Label};
-use c_types::Ty;
 use clight_source::tree::{BinaryOperator, MemberOperator, PrefixOperator};
-use clight_syntax::typed::{Expr, Home, StructType, TypedProgram, Variable};
+use clight_syntax::typed::{Expr, Home, TypedProgram, Variable};
 use clight_values::lookup::item_at;
-use clight_values::memory::{Memory, size_of as bytes_in};
+use clight_values::memory::Memory;
 use clight_values::operators::{
-    complemented_answer, converted_answer, integer_type, is_array, negated_answer,
+    complemented_answer, converted_answer, counted_size, negated_answer,
 };
 use clight_values::value::{Place, Value};
 
@@ -145,7 +146,7 @@ impl<'a> State<'a> {
     fn value_at(&self, ty: &Ty, position: Result<Position, FaultKind>) -> Result<Value, FaultKind>
         ensures { result ≡ e.value_at (type_of ty.now) (positions_held position) (state_held self.now) }
     {
-        if is_array(ty) {
+        if ty.is_array() {
             pointer_to(position)
         } else {
             self.load(ty, position)
@@ -294,16 +295,16 @@ impl<'a> State<'a> {
         ty: &Ty,
         index: Result<Value, FaultKind>,
     ) -> Result<Value, FaultKind>
-        ensures { result ≡ o.both (λ x i. o.indexed (structs_held structs.now) (memory_held self.now.memory) (type_of element.now) x (o.integer_type (type_of ty.now)) i) base index }
+        ensures { result ≡ o.both (λ x i. o.indexed (structs_held structs.now) (memory_held self.now.memory) (type_of element.now) x (integer_type (type_of ty.now)) i) base index }
     {
         match base {
             Err(kind) => Err(kind),
             Ok(pointer) => match index {
                 Err(kind) => Err(kind),
-                Ok(by) => match integer_type(ty) {
+                Ok(by) => match IntegerType::of(ty) {
                     None => Err(FaultKind::Outside),
                     Some(integer) => {
-                        let size = bytes_in(structs, element);
+                        let size = counted_size(structs, element);
                         self.memory.stepped(size, false, pointer, integer, by)
                     }
                 },

@@ -9,8 +9,8 @@ ghost use Rattle.clight_values.specs.Views.{Makes, type_held, variables_held};
 ghost use Rattle.clight_meaning.specs.Views.{assignments_held, positions_held, state_held};
 
 use crate::state::{Position, State, type_at};
-use cerco_base::{FaultKind, Label};
 use c_types::Ty;
+use cerco_base::{FaultKind, Label};
 use clight_syntax::typed::{Assignment, Expr, ResultTarget, TypedProgram, Variable};
 use clight_values::lookup::item_at;
 use clight_values::memory::initial;

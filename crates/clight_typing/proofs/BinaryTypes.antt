@@ -5,9 +5,10 @@ use Rattle.std.proofs.Common.{inl, inr}
 use Rattle.std.proofs.lemmas.Bool.{and_parts, or_cases, and_left, and_right}
 use Rattle.clight_source.specs.declared.tree.BinaryOperator.{BinaryOperator}
 use Rattle.clight_source.specs.declared.tree.BinaryOperator.TheVariants as b
-use Rattle.c_types.specs.Types.{CType, Void, Integer, Pointer, Array, Struct, StructType, size_of}
+use Rattle.c_types.specs.Types.{CType, Void, Integer, Pointer, Array, Struct, StructType, size_of, type_eq}
 use Rattle.c_types.specs.Conversions.{promoted, common, int}
-use Rattle.clight_types.specs.Operands.{is_integer, is_pointer, is_number, is_zero, type_eq, target_of, Operand, steps_over, steps_along}
+use Rattle.c_types.specs.Kinds.{is_integer, is_pointer, target_of}
+use Rattle.clight_types.specs.Operands.{is_number, is_zero, Operand, steps_over, steps_along}
 use Rattle.clight_types.specs.Expressions.{HasBinary, arithmetic, product, quotient, shifted, compared, compared_pointers, compared_to_null, null_compared, stepped, steps_first, stepped_back, is_arithmetic, is_division, is_shift, is_comparison, is_equality, are_integers, are_unsigned_chars, are_like_pointers, are_pointer_and_null, are_pointer_and_steps, is_shift_count}
 use Rattle.clight_types.specs.TypedExpressions.{binary_type, sum_type, difference_type, bits_type, product_type, shift_type, order_type, equality_type}
 use Rattle.clight_typing.proofs.Checks.{some_holds, if_true, if_false, or_first, or_second}

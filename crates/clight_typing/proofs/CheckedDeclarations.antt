@@ -10,10 +10,12 @@ use Rattle.clight_source.specs.declared.tree.SignedNumber.{SignedNumber}
 use Rattle.clight_source.specs.declared.tree.EarlierNumber.{EarlierNumber}
 use Rattle.clight_source.specs.Depth.{declared_start}
 use Rattle.clight_source.specs.Trees as s
-use Rattle.c_types.specs.Types.{CType, Void, Integer, Pointer, Array, Struct, Size, One, Two, Four, StructType, size_of}
-use Rattle.clight_types.specs.Operands.{is_scalar, is_four_bytes}
+use Rattle.c_types.specs.declared.integers.Size.TheVariants.{One, Two, Four}
+use Rattle.c_types.specs.declared.integers.Size.{Size}
+use Rattle.c_types.specs.Types.{CType, Void, Integer, Pointer, Array, Struct, StructType, size_of}
+use Rattle.c_types.specs.Kinds.{is_scalar, is_four_bytes}
 use Rattle.clight_types.specs.Declarations.{named_type, declared_type, declaration_type, parameters_of, signature_of, is_size, struct_type}
-use Rattle.clight_types.specs.Functions.{is_void, is_object_words, is_result_words, is_declaration, are_members, is_struct, is_number, are_numbers, has_numbers, takes_initialiser, is_global, is_parameter, are_parameters, is_result, has_few_parameters, is_header}
+use Rattle.clight_typing.specs.Functions.{is_void, is_object_words, is_result_words, is_declaration, are_members, is_struct, is_number, are_numbers, has_numbers, takes_initialiser, is_global, is_parameter, are_parameters, is_result, has_few_parameters, is_header}
 use Rattle.clight_types.specs.TypedExpressions.{Checked, fault, ◌>>=◌, object_words, words_start}
 use Rattle.clight_typing.specs.TypedPrograms.{asked, checked_declaration, checked_members, checked_struct, checked_number, checked_numbers, checked_initialiser, checked_global, result_words, checked_result, checked_parameter, checked_parameters, checked_types, few_parameters, checked_prototype}
 use Rattle.clight_typing.proofs.Checks.{then_holds, if_true, if_false}

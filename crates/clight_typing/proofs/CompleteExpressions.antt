@@ -14,11 +14,13 @@ use Rattle.clight_source.specs.declared.tree.Name.{Name}
 use Rattle.clight_source.specs.declared.tree.Specifiers.{Specifiers}
 use Rattle.cerco_base.specs.declared.reasons.TypeKind.TheVariants as k
 use Rattle.clight_source.specs.Trees as s
-use Rattle.c_types.specs.Types.{CType, Void, Integer, Pointer, Array, Struct, Size, One, Two, Four, Member, StructType}
+use Rattle.c_types.specs.declared.integers.Size.TheVariants.{One, Two, Four}
+use Rattle.c_types.specs.declared.integers.Size.{Size}
+use Rattle.c_types.specs.Types.{CType, Void, Integer, Pointer, Array, Struct, Member, StructType}
 use Rattle.clight_syntax.specs.TypedTrees.{Expr, Variable, Number, Parenthesis, Binary, Prefix, Cast, Index, Select, type_at, Cond, Truth, InParentheses, Not, Both, Either}
-use Rattle.c_types.specs.Conversions.{promoted}
-use Rattle.clight_syntax.specs.LiteralTypes.{literal_type}
-use Rattle.clight_types.specs.Operands.{is_integer, is_pointer, is_scalar, is_array, is_four_bytes, is_value, is_place, target_of, operand, steps_along}
+use Rattle.c_types.specs.Conversions.{promoted, literal_type}
+use Rattle.c_types.specs.Kinds.{is_integer, is_pointer, is_scalar, is_array, is_four_bytes, target_of}
+use Rattle.clight_types.specs.Operands.{is_value, is_place, operand, steps_along}
 use Rattle.clight_types.specs.Scopes.{Scope, meaning_of, member_of}
 use Rattle.clight_types.specs.Declarations.{named_type}
 use Rattle.clight_types.specs.Expressions.{HasType, HasValue, HasPrefix, NeedsValue, HasBinary, IsConditional, is_logical, selected, are_pointer_and_steps}

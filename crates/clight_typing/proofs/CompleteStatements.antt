@@ -8,11 +8,13 @@ use Rattle.cerco_base.specs.declared.reasons.TypeKind.TheVariants as k
 use Rattle.clight_source.specs.Trees as s
 use Rattle.c_types.specs.Types.{CType, Void, Integer, Pointer, Array, Struct}
 use Rattle.clight_syntax.specs.TypedTrees.{Expr, type_at, Cond, Assignment, Test, EarlierArgument, Arguments, NoArguments, Arguments', Call, ForHead, Stmt, Empty, Block, Assign, ReadPort, WritePort, CallOf, If, IfElse, While, Do, For, Break, Continue, Return, Stmts, NoStmts, Then}
-use Rattle.clight_types.specs.Operands.{is_integer, is_assignable, is_value, operand}
+use Rattle.c_types.specs.Kinds.{is_integer}
+use Rattle.clight_types.specs.Operands.{is_assignable, is_value, operand}
 use Rattle.clight_types.specs.Scopes.{Scope, Signature, Meaning, Object, Code, meaning_of}
 use Rattle.clight_types.specs.Expressions.{HasType, HasValue, IsConditional}
-use Rattle.clight_types.specs.Functions.{is_void}
-use Rattle.clight_types.specs.Statements.{Body, in_loop, IfThere, takes, IsAssignment, values_of, values_onto, HaveValues, are_assignable, takes_result, IsResultTarget, IsCall, reads_into, IsReturn, IsForHead, IsTyped, AreTyped}
+use Rattle.clight_typing.specs.Functions.{is_void}
+use Rattle.clight_types.specs.Assignable.{takes, values_of, values_onto, are_assignable}
+use Rattle.clight_typing.specs.Statements.{Body, in_loop, IfThere, IsAssignment, HaveValues, takes_result, IsResultTarget, IsCall, reads_into, IsReturn, IsForHead, IsTyped, AreTyped}
 use Rattle.clight_typing.specs.Sources.{expr_source, cond_source, optional_source, assignment_source, test_source, earlier_argument_source, arguments_source, target_source, call_source, for_source, stmt_source, stmts_source}
 use Rattle.clight_types.specs.TypedExpressions.{Checked, fault, ◌>>=◌, typed_value, typed_condition, typed_place}
 use Rattle.clight_typing.specs.TypedStatements.{optional, assigned, typed_assignment, typed_test, read_port, typed_reading, typed_writing, typed_earlier, typed_arguments, call_place, result_target, typed_target, call_of, typed_call, jump, typed_return, typed_for, typed_stmt, typed_stmts}

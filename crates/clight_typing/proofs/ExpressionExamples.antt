@@ -9,10 +9,10 @@ use Rattle.clight_source.specs.declared.tree.PrefixOperator.TheVariants as o
 use Rattle.clight_source.specs.declared.tree.Specifiers.TheVariants as t
 use Rattle.clight_source.specs.Trees.{Expr, Number}
 use Rattle.clight_syntax.specs.TypedTrees.{type_at, Cond}
-use Rattle.c_types.specs.Types.{CType, Void, Integer, Pointer, Array, Struct, One, Two, Four, Member, StructType}
-use Rattle.c_types.specs.Conversions.{common, unsigned_char, int, unsigned_int, long, unsigned_long}
-use Rattle.clight_syntax.specs.LiteralTypes.{literal_type}
-use Rattle.clight_types.specs.Operands.{value_type}
+use Rattle.c_types.specs.declared.integers.Size.TheVariants.{One, Two, Four}
+use Rattle.c_types.specs.Types.{CType, Void, Integer, Pointer, Array, Struct, Member, StructType}
+use Rattle.c_types.specs.Conversions.{common, unsigned_char, int, unsigned_int, long, unsigned_long, literal_type}
+use Rattle.c_types.specs.Kinds.{value_type}
 use Rattle.clight_types.specs.Scopes.{Scope, Named, Meaning, Meanings, Object, Code, declare, nothing, visible}
 use Rattle.clight_types.specs.TypedExpressions.{Checked, typed_value, typed_condition, ◌>>=◌}
 use Rattle.clight_typing.proofs.Samples.{at, name, literal, var, num, par, bin, pre, cast, idx, dot, arrow}
@@ -165,17 +165,17 @@ steps = refl
 competing_faults :
     map value (bin (num 1 0) b.Divide 1 (par 2 (bin (num 2 3) b.Multiply 4 (num 3 5))) ∷ bin s b.Add 1 (num 40000 2) ∷ bin (num 40000 1) b.Add 2 s
     ∷ pre o.Negate 1 s ∷ pre o.Dereference 1 f ∷ idx s 1 (num 1 2) ∷ idx f 1 s ∷ cast 1 (t.Void (at 2)) (num 40000 3) ∷ cast 1 (t.Int (at 2)) s
-    ∷ par 1 s ∷ par 1 (par 2 s) ∷ par 1 f ∷ par 1 (par 2 (pre o.Not 3 u)) ∷ pre o.Not 1 (par 2 (bin u b.LogicalAnd 3 u)) ∷ pre o.Not 1 s ∷ pre o.Not 1 f
-    ∷ bin s b.LogicalOr 1 (num 40000 2) ∷ pre o.AddressOf 1 (pre o.Not 2 u) ∷ dot (par 1 f) 2 21 ∷ dot (pre o.Dereference 1 u) 2 21 ∷ bin (pre o.Not 1 u) b.Add 2 s ∷ [])
+    ∷ par 1 s ∷ par 1 (par 2 s) ∷ par 1 f ∷ par 1 (par 2 (pre o.Not 3 u)) ∷ pre o.Not 1 (par 2 (bin u b.LogicalAnd 3 u)) ∷ pre o.Not 1 s ∷ pre o.Not 1 f ∷ pre o.Not 1 (par 2 f)
+    ∷ pre o.AddressOf 1 (par 2 f) ∷ bin (num 1 1) b.LogicalAnd 2 (par 3 f) ∷ arrow (par 1 (par 2 f)) 3 21 ∷ bin s b.LogicalOr 1 (num 40000 2) ∷ pre o.AddressOf 1 (pre o.Not 2 u) ∷ dot (par 1 f) 2 21 ∷ dot (pre o.Dereference 1 u) 2 21 ∷ bin (pre o.Not 1 u) b.Add 2 s ∷ [])
     ≡ no 4 k.Operand ∷ no 57 k.Value ∷ no 1 k.Long
     ∷ no 57 k.Value ∷ no 60 k.Value ∷ no 57 k.Value ∷ no 60 k.Value ∷ no 2 k.Void ∷ no 57 k.Value
-    ∷ no 1 k.Value ∷ no 1 k.Value ∷ no 60 k.Value ∷ no 3 k.Value ∷ no 1 k.Value ∷ no 57 k.Condition ∷ no 60 k.Condition
-    ∷ no 57 k.Condition ∷ no 2 k.Value ∷ no 60 k.Value ∷ no 1 k.Operand ∷ no 1 k.Value ∷ []
+    ∷ no 1 k.Value ∷ no 1 k.Value ∷ no 60 k.Value ∷ no 3 k.Value ∷ no 1 k.Value ∷ no 57 k.Condition ∷ no 60 k.Condition ∷ no 60 k.Condition
+    ∷ no 1 k.Operand ∷ no 60 k.Condition ∷ no 3 k.Member ∷ no 57 k.Condition ∷ no 2 k.Value ∷ no 2 k.Member ∷ no 1 k.Operand ∷ no 1 k.Value ∷ []
 competing_faults = refl
 
 conditions :
     map condition (u ∷ p ∷ a ∷ pre o.Not 1 p ∷ par 1 (bin (par 2 (bin u b.LogicalOr 3 p)) b.LogicalAnd 4 (pre o.Not 5 (par 6 u))) ∷ s ∷ f ∷ par 1 s ∷ par 1 (par 2 f)
     ∷ pre o.Not 1 (dot s 2 23) ∷ bin (bin p b.Add 1 p) b.LogicalAnd 2 f ∷ bin u b.LogicalAnd 2 f ∷ bin (pre o.Not 1 u) b.Equal 2 u ∷ [])
-    ≡ has Void ∷ has Void ∷ has Void ∷ has Void ∷ has Void ∷ no 57 k.Condition ∷ no 60 k.Condition ∷ no 1 k.Condition ∷ no 60 k.Value
+    ≡ has Void ∷ has Void ∷ has Void ∷ has Void ∷ has Void ∷ no 57 k.Condition ∷ no 60 k.Condition ∷ no 1 k.Condition ∷ no 60 k.Condition
     ∷ no 2 k.Member ∷ no 1 k.Operand ∷ no 60 k.Condition ∷ no 1 k.Value ∷ []
 conditions = refl

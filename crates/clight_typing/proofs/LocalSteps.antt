@@ -3,7 +3,7 @@ use Rattle.std.proofs.Common.{◌≡◌, ◌∙◌, ℕ, suc, ◌+◌, ◌<◌, 
 use Rattle.clight_source.specs.Trees as s
 use Rattle.c_types.specs.Types.{StructType}
 use Rattle.clight_syntax.specs.TypedTrees.{Expr, Local, EarlierArgument}
-use Rattle.clight_types.specs.Functions.{with_local}
+use Rattle.clight_typing.specs.Functions.{with_local}
 use Rattle.clight_types.specs.Scopes.{Scope, Meanings, visible}
 use Rattle.clight_types.specs.TypedExpressions.{Checked, TypeFault, ◌>>=◌, typed_value}
 use Rattle.clight_typing.specs.TypedStatements.{typed_earlier}

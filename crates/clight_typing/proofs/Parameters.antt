@@ -3,7 +3,7 @@ use Rattle.std.proofs.Common.{◌≡◌, ℕ, suc, List, [], ◌∷◌, map, ref
 use Rattle.clight_source.specs.Trees.{Declared}
 use Rattle.c_types.specs.Types.{StructType}
 use Rattle.clight_types.specs.Declarations.{declared_type}
-use Rattle.clight_types.specs.Functions.{Own, object, parameter_own, with_parameters}
+use Rattle.clight_typing.specs.Functions.{Own, object, parameter_own, with_parameters}
 use Rattle.clight_typing.specs.HeldFile.{with_owns}
 use Rattle.clight_types.specs.Scopes.{Meanings, declare}
 

@@ -14,11 +14,13 @@ use Rattle.clight_source.specs.declared.tree.Name.{Name}
 use Rattle.clight_source.specs.declared.tree.Specifiers.{Specifiers}
 use Rattle.cerco_base.specs.declared.reasons.TypeKind.TheVariants as k
 use Rattle.clight_source.specs.Trees as s
-use Rattle.c_types.specs.Types.{CType, Void, Integer, Pointer, Array, Struct, Size, One, Two, Four, Member, StructType}
+use Rattle.c_types.specs.declared.integers.Size.TheVariants.{One, Two, Four}
+use Rattle.c_types.specs.declared.integers.Size.{Size}
+use Rattle.c_types.specs.Types.{CType, Void, Integer, Pointer, Array, Struct, Member, StructType}
 use Rattle.clight_syntax.specs.TypedTrees.{Expr, Variable, Number, Parenthesis, Binary, Prefix, Cast, Index, Select, type_at, Cond, Truth, InParentheses, Not, Both, Either}
-use Rattle.c_types.specs.Conversions.{promoted}
-use Rattle.clight_syntax.specs.LiteralTypes.{literal_type}
-use Rattle.clight_types.specs.Operands.{is_integer, is_pointer, is_scalar, is_array, is_four_bytes, is_value, is_place, target_of, operand, steps_along}
+use Rattle.c_types.specs.Conversions.{promoted, literal_type}
+use Rattle.c_types.specs.Kinds.{is_integer, is_pointer, is_scalar, is_array, is_four_bytes, target_of}
+use Rattle.clight_types.specs.Operands.{is_value, is_place, operand, steps_along}
 use Rattle.clight_types.specs.Scopes.{Scope, Meaning, Object, Code, meaning_of, member_of, member_in}
 use Rattle.clight_types.specs.Declarations.{named_type}
 use Rattle.clight_types.specs.Expressions.{HasType, HasValue, HasPrefix, NeedsValue, HasBinary, IsConditional, is_logical, selected, are_pointer_and_steps}
@@ -87,7 +89,7 @@ number_right scope x span = short (is_four_bytes (literal_type x)) refl
     short false is = ((refl, rw is refl), refl)
 
 parentheses_right : (scope : Scope) (left right : Span) (e : s.Expr) (j : Judged) → IsJudged scope e j →
-    IfOk (in_parentheses left right e j) (IsJudged scope (s.Parenthesis left e right))
+    IsJudged scope (s.Parenthesis left e right) (in_parentheses left right j)
 parentheses_right scope left right e (Typed t) h = ((h.0, refl), ap (λ e. s.Parenthesis left e right) h.1)
 parentheses_right scope left right e (Logical c) h = ((h.0, h.1), refl, ap (λ e. s.Parenthesis left e right) h.2)
 parentheses_right scope left right e NoVariable h = tt
@@ -306,7 +308,7 @@ pub judged_right : (scope : Scope) (e : s.Expr) → IfOk (judged scope e) (IsJud
 judged_right scope (s.Variable name) = name_right scope name (meaning_of scope name.number) refl
 judged_right scope (s.Number number span) = number_right scope number span
 judged_right scope (s.Parenthesis left e right) =
-    then_holds (IsJudged scope e) (IsJudged scope (s.Parenthesis left e right)) (judged scope e) (in_parentheses left right e) (judged_right scope e) (parentheses_right scope left right e)
+    then_holds (IsJudged scope e) (IsJudged scope (s.Parenthesis left e right)) (judged scope e) (λ x. Ok (in_parentheses left right x)) (judged_right scope e) (parentheses_right scope left right e)
 judged_right scope (s.Binary l operator at r) = binary_right scope operator at l r (judged scope l) (judged scope r) (judged_right scope l) (judged_right scope r)
 judged_right scope (s.Prefix operator at e) = prefix_right scope operator at e (judged scope e) (judged_right scope e)
 judged_right scope (s.Cast left words right e) = cast_right scope left words right e (judged scope e) (judged_right scope e)

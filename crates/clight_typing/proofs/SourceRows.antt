@@ -10,7 +10,7 @@ use Rattle.clight_syntax.specs.TypedTrees as t
 use Rattle.clight_source.specs.Code.Views.{stmt_of, row_onto, stmts_onto, stmts_of}
 use Rattle.clight_syntax.specs.Code.TypedViews as v
 use Rattle.clight_syntax.proofs.TypedRows as typed
-use Rattle.clight_types.specs.Statements.{Body}
+use Rattle.clight_typing.specs.Statements.{Body}
 use Rattle.clight_types.specs.TypedExpressions.{Checked, TypeFault, ◌>>=◌}
 use Rattle.clight_typing.specs.TypedStatements.{typed_stmt, typed_stmts}
 use mathlib.Core.Former.{Count}

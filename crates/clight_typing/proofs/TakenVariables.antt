@@ -7,7 +7,8 @@ use Rattle.c_types.specs.Types.{CType}
 use Rattle.clight_syntax.specs.TypedTrees.{Expr, Variable, Number, Parenthesis, Binary, Prefix, Cast, Index, Select, Cond, Truth, InParentheses, Not, Both, Either, Assignment, EarlierArgument, Arguments, NoArguments, Arguments', ForHead, Stmt, Empty, Block, Assign, ReadPort, WritePort, CallOf, If, IfElse, While, Do, For, Break, Continue, Return, Stmts, NoStmts, Then}
 use Rattle.clight_types.specs.Scopes.{Scope, Meaning, Object}
 use Rattle.clight_types.specs.Expressions.{HasType, HasValue, IsConditional}
-use Rattle.clight_types.specs.Statements.{Body, in_loop, option_list, variable_of, taken, addressed, cond_addressed, optional_addressed, assignment_addressed, earlier_addressed, arguments_addressed, for_addressed, stmt_addressed, stmts_addressed, IfThere, IsAssignment, HaveValues, values_of, values_onto, IsForHead, IsReturn, IsTyped, AreTyped}
+use Rattle.clight_types.specs.Assignable.{variable_of, values_of, values_onto}
+use Rattle.clight_typing.specs.Statements.{Body, in_loop, option_list, taken, addressed, cond_addressed, optional_addressed, assignment_addressed, earlier_addressed, arguments_addressed, for_addressed, stmt_addressed, stmts_addressed, IfThere, IsAssignment, HaveValues, IsForHead, IsReturn, IsTyped, AreTyped}
 use Rattle.clight_typing.specs.Sources.{expr_source, cond_source, optional_source, assignment_source, earlier_argument_source, arguments_source, for_source, stmt_source, stmts_source}
 use Rattle.clight_typing.specs.TypedStatements.{object_number, variable_at, taken_at, taken_in, optional_taken, assignment_taken, earlier_taken, arguments_taken, for_taken, stmt_taken, stmts_taken}
 

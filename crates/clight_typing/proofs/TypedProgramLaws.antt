@@ -7,12 +7,13 @@ use Rattle.cerco_base.specs.declared.reasons.TypeKind.TheVariants as k
 use Rattle.clight_source.specs.Trees as s
 use Rattle.c_types.specs.Types.{CType, StructType}
 use Rattle.clight_syntax.specs.TypedTrees.{Expr, Stmts, LocalInitialiser, NoValue, Value, Local, Function, Item, StructItem, GlobalItem, PrototypeItem, FunctionItem, Variable', TypedProgram}
-use Rattle.clight_types.specs.Operands.{is_scalar, is_assignable, operand}
+use Rattle.c_types.specs.Kinds.{is_scalar}
+use Rattle.clight_types.specs.Operands.{is_assignable, operand}
 use Rattle.clight_types.specs.Scopes.{Scope, Meanings, visible}
 use Rattle.clight_types.specs.Declarations.{declared_type, declaration_type, parameters_of, signature_of}
-use Rattle.clight_types.specs.Statements.{Body, is_among, AreTyped, addressed, stmts_addressed}
+use Rattle.clight_typing.specs.Statements.{Body, is_among, AreTyped, addressed, stmts_addressed}
 use Rattle.clight_typing.specs.Sources.{expr_source, stmts_source, initialiser_source, local_source, function_source, item_source, program_source}
-use Rattle.clight_types.specs.Functions.{File, is_struct, is_global, is_declaration, IsFirstValue, AreLocals, with_local, with_locals, locals_addressed, first_value_addressed, function_addressed, names_at_locals, first_local, body_of, IsFunction, is_header, agrees, has_few_parameters, variables_from, variables_of, own_variable, Own, has_block, counted, function_number, parameter_own, local_own}
+use Rattle.clight_typing.specs.Functions.{File, is_struct, is_global, is_declaration, IsFirstValue, AreLocals, with_local, with_locals, locals_addressed, first_value_addressed, function_addressed, names_at_locals, first_local, body_of, IsFunction, is_header, agrees, has_few_parameters, variables_from, variables_of, own_variable, Own, has_block, counted, function_number, parameter_own, local_own}
 use Rattle.clight_typing.specs.HeldFile.{source_own}
 use Rattle.clight_typing.specs.Programs.{after_struct, after_global, after_prototype, after_function, AreItems, over, a_struct, a_global, a_prototype, a_function, definitions, no_file, without_address, without_layout, IsWellTyped}
 use Rattle.clight_names.specs.Spellings.{main_name}

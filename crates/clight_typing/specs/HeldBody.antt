@@ -2,7 +2,7 @@
 use Rattle.std.specs.Prelude.{nat_eq}
 use Rattle.c_types.specs.Types.{type_of}
 use Rattle.clight_typing.specs.HeldScopes.{scope_of}
-use Rattle.clight_types.specs.Statements.{Body}
+use Rattle.clight_typing.specs.Statements.{Body}
 use Rattle.clight_typing.specs.declared.statements.Body.{Body as HeldBody}
 use Rattle.indexmap.specs.IndexSet.{contains}
 

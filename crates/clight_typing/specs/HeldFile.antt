@@ -8,7 +8,7 @@ use Rattle.clight_syntax.specs.Code.TypedViews.{variable_of, item_of, function_o
 use Rattle.clight_source.specs.declared.tree.Name.{Name}
 use Rattle.clight_syntax.specs.declared.typed.Item.{Item as HeldItem}
 use Rattle.clight_types.specs.Declarations.{declaration_type}
-use Rattle.clight_types.specs.Functions.{File, Own, object}
+use Rattle.clight_typing.specs.Functions.{File, Own, object}
 use Rattle.clight_typing.specs.HeldOwn.{own_of}
 use Rattle.clight_typing.specs.HeldScopes.{file_names, scope_of}
 use Rattle.clight_types.specs.Scopes.{Scope, Meanings, declare, visible}

@@ -9,10 +9,10 @@ use Rattle.clight_syntax.specs.declared.typed.Item.{Item as HeldItem}
 use Rattle.clight_syntax.specs.declared.typed.Function.{Function as HeldFunction}
 use Rattle.cerco_base.specs.declared.reasons.TypeKind.TheVariants as k
 use Rattle.clight_types.specs.Declarations.{declared_type, parameters_of, signature_of}
-use Rattle.clight_types.specs.Functions.{File, with_parameters, code, agrees}
+use Rattle.clight_typing.specs.Functions.{File, with_parameters, code, agrees}
 use Rattle.clight_typing.specs.Programs.{after_struct, after_global, after_prototype, after_function}
 use Rattle.clight_types.specs.Scopes.{Scope, Meanings, declare, visible}
-use Rattle.clight_types.specs.Statements.{Body, is_among, option_list}
+use Rattle.clight_typing.specs.Statements.{Body, is_among, option_list}
 use Rattle.clight_types.specs.TypedExpressions.{Checked, ◌>>=◌}
 use Rattle.clight_typing.specs.TypedPrograms.{Items, typed_locals, behind_locals, locals_taken, checked_types, few_parameters, asked, function_with, checked_struct, checked_global, checked_prototype}
 use Rattle.clight_typing.specs.TypedStatements.{typed_stmts, stmts_taken}

@@ -6,7 +6,7 @@ use Rattle.clight_source.specs.Code.Views.{declared_of, earlier_parameter_of}
 use Rattle.clight_source.specs.declared.tree.Declared.{Declared as HeldDeclared}
 use Rattle.clight_source.specs.declared.tree.EarlierParameter.{EarlierParameter}
 use Rattle.clight_types.specs.Declarations.{parameters_of}
-use Rattle.clight_types.specs.Functions.{Own}
+use Rattle.clight_typing.specs.Functions.{Own}
 use Rattle.clight_typing.specs.declared.headers.Own.{Own as HeldOwn}
 
 abbrev pub own_of : HeldOwn → Own

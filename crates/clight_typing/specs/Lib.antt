@@ -1,11 +1,5 @@
-pub use Rattle.clight_types.specs.Operands
-pub use Rattle.clight_types.specs.Scopes
-pub use Rattle.clight_types.specs.Declarations
-pub use Rattle.clight_types.specs.Expressions
-pub use Rattle.clight_types.specs.Statements
-pub use Rattle.clight_types.specs.Functions
-pub use Rattle.clight_types.specs.TypedExpressions
-pub use Rattle.clight_types.specs.Outcomes
+pub mod Statements
+pub mod Functions
 pub mod Sources
 pub mod Programs
 pub mod TypedStatements

@@ -9,7 +9,7 @@ use Rattle.clight_syntax.specs.TypedTrees.{Function, Item, StructItem, GlobalIte
 use Rattle.clight_names.specs.Spellings.{main_name}
 use Rattle.clight_types.specs.Declarations.{declaration_type, struct_type}
 use Rattle.clight_types.specs.Scopes.{declare, nothing}
-use Rattle.clight_types.specs.Functions.{File, IsFunction, is_struct, is_global, is_header, object, code, variables_of, function_number}
+use Rattle.clight_typing.specs.Functions.{File, IsFunction, is_struct, is_global, is_header, object, code, variables_of, function_number}
 use Rattle.clight_typing.specs.Sources.{program_source}
 
 -- ---- what is declared behind an item

@@ -11,11 +11,12 @@ use Rattle.clight_source.specs.Depth.{declared_start}
 use Rattle.clight_source.specs.Trees as s
 use Rattle.c_types.specs.Types.{CType, Void, Struct, StructType, size_of}
 use Rattle.clight_syntax.specs.TypedTrees.{Stmts, LocalInitialiser, NoValue, Value, Local, Function, Item, StructItem, GlobalItem, PrototypeItem, FunctionItem, Variable', TypedProgram}
-use Rattle.clight_types.specs.Operands.{is_scalar, is_assignable, operand, is_four_bytes}
+use Rattle.c_types.specs.Kinds.{is_scalar, is_four_bytes}
+use Rattle.clight_types.specs.Operands.{is_assignable, operand}
 use Rattle.clight_types.specs.Scopes.{Scope, Meanings, visible}
 use Rattle.clight_types.specs.Declarations.{named_type, declared_type, declaration_type, parameters_of, signature_of, is_size, struct_type}
-use Rattle.clight_types.specs.Statements.{Body, is_among}
-use Rattle.clight_types.specs.Functions.{File, is_void, is_number, takes_initialiser, has_few_parameters, agrees, with_local, names_at_locals, first_local, function_number, code}
+use Rattle.clight_typing.specs.Statements.{Body, is_among}
+use Rattle.clight_typing.specs.Functions.{File, is_void, is_number, takes_initialiser, has_few_parameters, agrees, with_local, names_at_locals, first_local, function_number, code}
 use Rattle.clight_typing.specs.Programs.{after_struct, after_global, after_prototype, after_function, definitions, no_file}
 use Rattle.clight_names.specs.Spellings.{main_name}
 use Rattle.clight_types.specs.TypedExpressions.{Checked, fault, ◌>>=◌, typed_value, object_words, words_start}

@@ -13,10 +13,12 @@ use Rattle.clight_syntax.specs.declared.typed.ResultTarget.{ResultTarget}
 use Rattle.clight_source.specs.Trees as s
 use Rattle.c_types.specs.Types.{CType, Void}
 use Rattle.clight_syntax.specs.TypedTrees.{Expr, Cond, Assignment, Test, EarlierArgument, Arguments, NoArguments, Arguments', Call, ForHead, Stmt, Empty, Block, Assign, ReadPort, WritePort, CallOf, If, IfElse, While, Do, For, Break, Continue, Return, Stmts, NoStmts, Then}
-use Rattle.clight_types.specs.Operands.{is_integer, is_assignable, operand}
+use Rattle.c_types.specs.Kinds.{is_integer}
+use Rattle.clight_types.specs.Operands.{is_assignable, operand}
 use Rattle.clight_types.specs.Scopes.{Scope, Signature, Meaning, Object, Code, meaning_of}
-use Rattle.clight_types.specs.Functions.{is_void}
-use Rattle.clight_types.specs.Statements.{Body, in_loop, option_list, takes, values_of, are_assignable, takes_result, reads_into}
+use Rattle.clight_typing.specs.Functions.{is_void}
+use Rattle.clight_types.specs.Assignable.{takes, values_of, are_assignable}
+use Rattle.clight_typing.specs.Statements.{Body, in_loop, option_list, takes_result, reads_into}
 use Rattle.clight_types.specs.TypedExpressions.{Checked, fault, ◌>>=◌, typed_value, typed_condition, typed_place}
 
 -- ---- variables whose address is taken

@@ -6,7 +6,7 @@ ghost use Rattle.clight_source.specs.Code.Views.{expr_of as source_of};
 ghost use Rattle.clight_syntax.specs.Code.TypedViews.{expr_of, stmt_of};
 ghost use Rattle.clight_typing.specs.HeldBody.{body_for};
 ghost use Rattle.clight_types.specs.Outcomes.{Gives};
-ghost use Rattle.clight_types.specs.Statements.{reads_into as reads_into_lem, is_own as is_own_lem};
+ghost use Rattle.clight_typing.specs.Statements.{reads_into as reads_into_lem, is_own as is_own_lem};
 ghost use Rattle.clight_typing.specs.TypedStatements.{typed_reading as typed_reading_lem, read_port as read_port_lem, typed_return as typed_return_lem, jump as jump_lem};
 
 use crate::statements::Body;
@@ -15,7 +15,6 @@ use clight_source::tree;
 use clight_syntax::typed::{Expr, Stmt};
 use clight_syntax::{Span, Ty};
 use clight_types::assignable::{is_assignable_to, variable_of};
-use clight_types::integers::integer_of;
 use clight_types::judged::refused;
 use clight_types::operands::carried;
 
@@ -32,7 +31,7 @@ impl Body<'_> {
         ensures { result ≡ reads_into_lem (body_for self.now) (expr_of target.now) }
     {
         match variable_of(target) {
-            Some(variable) => self.is_own(variable) && integer_of(carried(target)).is_some(),
+            Some(variable) => self.is_own(variable) && carried(target).is_integer(),
             None => false,
         }
     }

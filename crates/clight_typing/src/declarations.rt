@@ -1,7 +1,6 @@
 //! The types that declarations give, and whether they may stand (ISO/IEC 9899:1999, 6.7.2 to 6.7.5).
 ghost use Rattle.std.specs.Prelude.{◌≡◌, IfOk, map, min};
-ghost use Rattle.c_types.specs.Types.{type_of};
-ghost use Rattle.clight_syntax.specs.Code.TypedViews.{struct_type_of, member_of as member_type_of};
+ghost use Rattle.c_types.specs.Types.{type_of, struct_type_of, member_of as member_type_of};
 ghost use Rattle.clight_source.specs.Code.Views.{declaration_of, member_of, struct_of};
 ghost use Rattle.clight_types.specs.Declarations.{declaration_type as declaration_type_lem, size_of_members, members_from as members_from_lem, struct_type as struct_type_lem};
 ghost use Rattle.clight_types.specs.Held.{size_cap};
@@ -10,15 +9,14 @@ ghost use Rattle.clight_types.specs.Outcomes.{Gives};
 ghost use Rattle.clight_typing.specs.TypedPrograms.{checked_declaration as checked_declaration_lem, checked_members as checked_members_lem, checked_struct as checked_struct_lem};
 
 use crate::scope::Scope;
+use c_types::{MemberType, StructType, Ty};
 use cerco_base::{Fault, NoMemory, TypeKind};
-use c_types::Ty;
 use clight_source::tree::{Declaration, Member, StructDefinition};
-use clight_syntax::typed::{MemberType, StructType};
 use clight_types::declared::{
-    capped_sum, declaration_type, declared_start, has_size, is_capped_size, offset_behind,
+    capped_size, capped_sum, declaration_type, declared_start, has_size, is_capped_size,
+    offset_behind,
 };
 use clight_types::judged::refused;
-use clight_types::types::capped_size;
 
 impl Scope {
     /// The type of a variable or member. Refused with `Void`, `Long` or `Size` where it has none.

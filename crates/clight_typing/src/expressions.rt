@@ -24,7 +24,6 @@ use clight_types::members::{named_type, select};
 use clight_types::nodes::{
     address, binary, cast, dereferenced, element, is_logical, logical, promoted,
 };
-use clight_types::types::copied;
 
 impl Scope {
     /// A name by itself.
@@ -33,7 +32,7 @@ impl Scope {
     {
         match self.look_up(name.number) {
             Some(Meaning::Object(variable, ty)) => {
-                let copy = copied(self.alloc, ty)?;
+                let copy = ty.duplicate(self.alloc)?;
                 Ok(Judged::Typed(Expr::Variable(copy, *variable, name)))
             }
             _ => Ok(Judged::NoVariable),
@@ -61,7 +60,7 @@ impl Scope {
             tree::Expr::Number(literal, span) => number(*literal, *span),
             tree::Expr::Parenthesis(left, part, right) => {
                 let inner = self.judged(part)?;
-                in_parentheses(self.alloc, *left, *right, part, inner)
+                in_parentheses(self.alloc, *left, *right, inner)
             }
             tree::Expr::Binary(left, operator, at, right) => {
                 let first = self.judged(left)?;

@@ -3,7 +3,7 @@ ghost use Rattle.std.specs.Prelude.{◌≡◌, ◌++◌, IfOk, OnOk, length, map
 ghost use Rattle.c_types.specs.Types.{type_of};
 ghost use Rattle.clight_syntax.specs.Code.TypedViews.{variable_of};
 ghost use Rattle.clight_source.specs.Code.Views.{struct_of, global_of, header_of};
-ghost use Rattle.clight_types.specs.Functions.{function_number as function_number_lem, variables_from, has_block as has_block_lem, home_of, counted as counted_lem};
+ghost use Rattle.clight_typing.specs.Functions.{function_number as function_number_lem, variables_from, has_block as has_block_lem, home_of, counted as counted_lem};
 ghost use Rattle.clight_typing.specs.HeldFile.{a_variable, file_for};
 ghost use Rattle.clight_typing.specs.HeldOwn.{own_of};
 ghost use Rattle.clight_types.specs.Outcomes.{Gives};
@@ -14,13 +14,11 @@ ghost use Rattle.indexmap.specs.IndexSet.{contains};
 use crate::headers::Own;
 use crate::locals::next_number;
 use crate::scope::{Meaning, Scope};
-use cerco_base::{Fault, NoMemory};
 use c_types::Ty;
+use cerco_base::{Fault, NoMemory};
 use clight_source::tree::{self, Header, StructDefinition};
 use clight_syntax::typed::{Home, Variable};
-use clight_types::assignable::is_scalar;
 use clight_types::places::Places;
-use clight_types::types::copied;
 use indexmap::IndexSet;
 
 /// What is declared before a place of a file.
@@ -74,7 +72,7 @@ impl File {
         let ty = self.scope.checked_global(x)?;
         let number = number_of_all(self.variables.len())?;
         let name = x.declaration.declared.name;
-        let copy = copied(self.scope.alloc, &ty)?;
+        let copy = ty.duplicate(self.scope.alloc)?;
         self.scope
             .declare(name.number, Meaning::Object(number, copy))?;
         self.variables.push(Variable {
@@ -133,7 +131,7 @@ fn counted(counts: bool, number: u32) -> Result<u32, NoMemory>
 fn has_block(addressed: &IndexSet<u32>, variable: u32, ty: &Ty) -> bool
     ensures { result ≡ has_block_lem (contains nat_eq addressed.now) variable (type_of ty.now) }
 {
-    !is_scalar(ty) || addressed.contains(&variable)
+    !ty.is_scalar() || addressed.contains(&variable)
 }
 
 /// A parameter or local, where so many blocks and scalars stand before it in its function.
@@ -163,7 +161,7 @@ pub fn add_variables(
     let mut scalars = 0;
     for own in owns {
         let in_block = has_block(addressed, variable, &own.ty);
-        let scalar = is_scalar(&own.ty);
+        let scalar = own.ty.is_scalar();
         all.push(own_variable(own, in_block, blocks, scalars))?;
         variable = next_number(variable)?;
         blocks = counted(in_block, blocks)?;

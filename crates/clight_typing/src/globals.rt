@@ -4,24 +4,24 @@ ghost use Rattle.clight_source.specs.Trees.{Single, Listed};
 ghost use Rattle.c_types.specs.Types.{type_of};
 ghost use Rattle.clight_source.specs.Code.Views.{declaration_of, initialiser_of, global_of};
 ghost use Rattle.clight_types.specs.Declarations.{declaration_type as declaration_type_lem};
-ghost use Rattle.clight_types.specs.Functions.{is_number as is_number_lem, takes_list as takes_list_lem};
+ghost use Rattle.clight_typing.specs.Functions.{is_number as is_number_lem, takes_list as takes_list_lem};
 ghost use Rattle.clight_typing.specs.HeldScopes.{scope_of};
 ghost use Rattle.clight_types.specs.Outcomes.{Gives};
 ghost use Rattle.clight_typing.specs.TypedPrograms.{checked_number as checked_number_lem, checked_numbers as checked_numbers_lem, checked_initialiser as checked_initialiser_lem, checked_global as checked_global_lem};
 
 use crate::scope::Scope;
+use c_types::{IntegerType, Size};
 use cerco_base::{Fault, TypeKind};
 use clight_source::tree::{EarlierNumber, Global, Initialiser, SignedNumber};
 use clight_syntax::{Span, Ty};
-use clight_types::integers::{Width, integer_of, literal_integer};
 use clight_types::judged::refused;
 
 /// Whether a number has a type of one or two bytes.
 fn is_number(x: SignedNumber) -> bool
     ensures { result ≡ is_number_lem x }
 {
-    match literal_integer(x.number).width {
-        Width::Four => false,
+    match IntegerType::of_literal(x.number).size {
+        Size::Four => false,
         _ => true,
     }
 }
@@ -51,7 +51,7 @@ fn takes_list(ty: &Ty, numbers: usize) -> bool
     ensures { result ≡ takes_list_lem (type_of ty.now) numbers }
 {
     match ty {
-        Ty::Array(element, count) => integer_of(element).is_some() && numbers <= *count as usize,
+        Ty::Array(element, count) => element.is_integer() && numbers <= *count as usize,
         _ => false,
     }
 }
@@ -61,7 +61,7 @@ fn checked_single(ty: &Ty, equals: Span, number: SignedNumber) -> Result<(), Fau
     ensures { Gives (λ y. y) result (checked_initialiser_lem (type_of ty.now) (Single equals number)) }
 {
     checked_number(number)?;
-    if integer_of(ty).is_some() {
+    if ty.is_integer() {
         return Ok(());
     }
     Err(refused(equals.from, TypeKind::Init))

@@ -4,22 +4,20 @@ ghost use Rattle.std.specs.Option.{option_map};
 ghost use Rattle.c_types.specs.Types.{type_of};
 ghost use Rattle.clight_source.specs.Code.Views.{declared_of, parameters_of as parameters_source_of, header_of};
 ghost use Rattle.clight_types.specs.Declarations.{parameters_of, signature_of as signature_of_lem, declared_type as declared_type_lem};
-ghost use Rattle.clight_types.specs.Functions.{parameter_own, has_few_parameters as has_few_parameters_lem, signature_eq, agrees as agrees_lem, is_void as is_void_lem};
+ghost use Rattle.clight_typing.specs.Functions.{parameter_own, has_few_parameters as has_few_parameters_lem, signature_eq, agrees as agrees_lem, is_void as is_void_lem};
 ghost use Rattle.clight_typing.specs.HeldOwn.{listed, own_of};
 ghost use Rattle.clight_typing.specs.HeldScopes.{scope_of, signature_for, meaning_for};
 ghost use Rattle.clight_types.specs.Outcomes.{Gives};
 ghost use Rattle.clight_typing.specs.TypedPrograms.{result_words as result_words_lem, checked_result as checked_result_lem, checked_parameter as checked_parameter_lem, checked_parameters as checked_parameters_lem, checked_types as checked_types_lem, few_parameters as few_parameters_lem, checked_prototype as checked_prototype_lem};
 
 use crate::scope::{Meaning, Scope, Signature};
-use cerco_base::{Fault, NoMemory, TypeKind};
 use c_types::Ty;
+use cerco_base::{Fault, NoMemory, TypeKind};
 use clight_source::tree::{Declared, EarlierParameter, Header, Name, Parameters};
-use clight_types::assignable::is_scalar;
 use clight_types::declared::{declared_start, declared_type};
 use clight_types::judged::{refused, words_start};
 use clight_types::members::named_type;
 use clight_types::parameters::{are_same_types, parameter_bytes};
-use clight_types::types::same_type;
 use std::alloc::Global;
 
 /// A parameter or local: its name and its type.
@@ -61,7 +59,7 @@ impl Scope {
     {
         self.result_words(x)?;
         let ty = declared_type(self.alloc, &self.structs, x)?;
-        if is_scalar(&ty) || is_void(&ty) {
+        if ty.is_scalar() || is_void(&ty) {
             return Ok(());
         }
         Err(refused(declared_start(x), TypeKind::Value))
@@ -73,7 +71,7 @@ impl Scope {
     {
         let _words = self.object_words(x.specifiers)?;
         let ty = declared_type(self.alloc, &self.structs, x)?;
-        if is_scalar(&ty) {
+        if ty.is_scalar() {
             return Ok(());
         }
         Err(refused(declared_start(x), TypeKind::Value))
@@ -193,7 +191,7 @@ fn types_of(alloc: Global, owns: Vec<Own>) -> Result<Vec<Ty>, NoMemory>
 fn is_same_signature(left: &Signature, right: &Signature) -> bool
     ensures { result ≡ signature_eq (signature_for left.now) (signature_for right.now) }
 {
-    same_type(&left.result, &right.result) && are_same_types(&left.parameters, &right.parameters)
+    left.result.is_same(&right.result) && are_same_types(&left.parameters, &right.parameters)
 }
 
 /// Whether an earlier declaration of a function, if there is one, gives it this type.

@@ -1,4 +1,4 @@
-//! The checker of the C profile: what names mean, and whether the types of a program are right.
+//! What the names of a program mean, and whether its types are right.
 #![tactic(auto)]
 
 pub mod blocks;

@@ -4,7 +4,7 @@ ghost use Rattle.c_types.specs.Types.{type_of};
 ghost use Rattle.clight_syntax.specs.Code.TypedViews.{local_of, local_initialiser_of};
 ghost use Rattle.clight_source.specs.Code.Views.{local_of as local_source_of, local_initialiser_of as initialiser_source_of, parameters_of as parameters_source_of};
 ghost use Rattle.clight_types.specs.Declarations.{parameters_of};
-ghost use Rattle.clight_types.specs.Functions.{object, with_parameters, parameter_own};
+ghost use Rattle.clight_typing.specs.Functions.{object, with_parameters, parameter_own};
 ghost use Rattle.clight_typing.specs.HeldFile.{an_own, source_own, with_owns};
 ghost use Rattle.clight_typing.specs.HeldOwn.{own_of};
 ghost use Rattle.clight_typing.specs.HeldScopes.{scope_of, declared_in, file_names};
@@ -14,13 +14,12 @@ ghost use Rattle.clight_typing.specs.TypedPrograms.{typed_first_value as typed_f
 
 use crate::headers::Own;
 use crate::scope::{Meaning, Scope};
-use cerco_base::{Fault, NoMemory, TypeKind};
 use c_types::Ty;
+use cerco_base::{Fault, NoMemory, TypeKind};
 use clight_source::tree::{self, Name, Parameters};
 use clight_syntax::typed::{Local, LocalInitialiser};
-use clight_types::assignable::{is_assignable_to, is_scalar};
+use clight_types::assignable::is_assignable_to;
 use clight_types::judged::refused;
-use clight_types::types::copied;
 use std::alloc::Global;
 
 /// The parameters and locals of a function that are declared so far.
@@ -54,7 +53,7 @@ impl Scope {
         ensures owns { OnOk result (map own_of variables.new.owns.items ≡ map own_of variables.old.owns.items ++ an_own name (type_of ty) ∷ []) }
         ensures taken { OnOk result (variables.new.taken ≡ variables.old.taken) }
     {
-        let copy = copied(self.alloc, &ty)?;
+        let copy = ty.duplicate(self.alloc)?;
         self.declare_local(name.number, Meaning::Object(variables.next, copy))?;
         variables.owns.push(Own { name, ty })?;
         variables.next = next_number(variables.next)?;
@@ -96,7 +95,7 @@ impl Scope {
             tree::LocalInitialiser::Nothing => Ok(LocalInitialiser::Nothing),
             tree::LocalInitialiser::Value(equals, value) => {
                 let e = self.typed_value(value)?;
-                if !is_scalar(ty) || !is_assignable_to(&e, ty) {
+                if !ty.is_scalar() || !is_assignable_to(&e, ty) {
                     return Err(refused(equals.from, TypeKind::Init));
                 }
                 Ok(LocalInitialiser::Value(*equals, e))
@@ -129,7 +128,7 @@ impl Scope {
         ensures taken { OnOk result (variables.new.taken.items ≡ variables.old.taken.items ++ first_value_taken (scope_at (scope_of self.old).structs variables.old.next (scope_of self.old).meaning (local_source_of x)) (initialiser_source_of x.initialiser)) }
     {
         let ty = self.checked_declaration(&x.declaration)?;
-        let copy = copied(self.alloc, &ty)?;
+        let copy = ty.duplicate(self.alloc)?;
         self.declare_own(variables, x.declaration.declared.name, copy)?;
         let initialiser = self.typed_first_value(&ty, &x.initialiser)?;
         self.add_first_value(&x.initialiser, &mut variables.taken)?;

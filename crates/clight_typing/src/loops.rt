@@ -7,7 +7,7 @@ ghost use Rattle.clight_syntax.specs.Code.TypedViews.{assignment_of, cond_of, fo
 ghost use Rattle.clight_typing.specs.HeldBody.{body_for};
 ghost use Rattle.clight_typing.specs.HeldScopes.{scope_of, signature_for};
 ghost use Rattle.clight_types.specs.Outcomes.{Gives};
-ghost use Rattle.clight_types.specs.Statements.{takes_result as takes_result_lem};
+ghost use Rattle.clight_typing.specs.Statements.{takes_result as takes_result_lem};
 ghost use Rattle.clight_typing.specs.TypedStatements.{optional, typed_assignment as typed_assignment_lem, typed_for as typed_for_lem, typed_target as typed_target_lem};
 ghost use Rattle.clight_types.specs.TypedExpressions.{typed_condition as typed_condition_lem};
 
@@ -17,7 +17,7 @@ use cerco_base::{Fault, TypeKind};
 use clight_source::tree::{self, CallTarget};
 use clight_syntax::typed::{Assignment, ForHead, ResultTarget};
 use clight_syntax::{Cond, Ty};
-use clight_types::assignable::{is_result_assignable, is_scalar};
+use clight_types::assignable::is_result_assignable;
 use clight_types::judged::refused;
 
 impl Scope {
@@ -72,7 +72,7 @@ impl Body<'_> {
     fn takes_result(&self, signature: &Signature, variable: u32, ty: &Ty) -> bool
         ensures { result ≡ takes_result_lem (body_for self.now) (signature_for signature.now) variable (type_of ty.now) }
     {
-        self.is_own(variable) && is_scalar(ty) && is_result_assignable(&signature.result, ty)
+        self.is_own(variable) && ty.is_scalar() && is_result_assignable(&signature.result, ty)
     }
 
     /// The variable that takes a call's result. Refused with `Call` where it can't.

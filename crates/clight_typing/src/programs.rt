@@ -1,7 +1,7 @@
 //! The typed tree of a whole program (ISO/IEC 9899:1999, 6.9).
 ghost use Rattle.std.specs.Prelude.{◌≡◌, ◌++◌, IfOk, OnOk, map};
 ghost use Rattle.std.specs.Option.{option_map};
-ghost use Rattle.clight_types.specs.Statements.{option_list};
+ghost use Rattle.clight_typing.specs.Statements.{option_list};
 ghost use Rattle.clight_syntax.specs.Code.TypedViews.{item_of, function_of, program_of};
 ghost use Rattle.clight_source.specs.Code.Views.{item_of as item_source_of, program_of as program_source_of};
 ghost use Rattle.clight_typing.specs.HeldFile.{file_for};
@@ -126,7 +126,7 @@ fn typed_tree(alloc: Global, program: Program) -> Result<Typed, Fault>
         file: _,
         locals: _,
     } = scope;
-    let structs = structs.into_types()?;
+    let structs = structs.into_types();
     Ok(Typed {
         names,
         items,

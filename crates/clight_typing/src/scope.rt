@@ -1,14 +1,13 @@
 //! What names mean where they stand (ISO/IEC 9899:1999, 6.2.1).
 ghost use Rattle.std.specs.Prelude.{◌≡◌, ◌++◌, ◌∷◌, [], OnOk};
 ghost use Rattle.std.specs.Option.{option_map};
-ghost use Rattle.clight_syntax.specs.Code.TypedViews.{struct_type_of};
+ghost use Rattle.c_types.specs.Types.{struct_type_of};
 ghost use Rattle.clight_typing.specs.HeldScopes.{meaning_for, scope_of, file_names, named, declared_in};
 ghost use Rattle.clight_types.specs.HeldStructs.{structs_of};
 ghost use Rattle.clight_types.specs.Scopes.{nothing, visible, declare as declare_lem};
 
+use c_types::{StructType, Ty};
 use cerco_base::NoMemory;
-use c_types::Ty;
-use clight_syntax::typed::StructType;
 use clight_types::structs::Structs;
 use indexmap::IndexMap;
 use std::alloc::Global;

@@ -1,33 +1,10 @@
-//! Copies of types, expressions and calls.
+//! Copies of expressions and calls.
 ghost use Rattle.std.specs.Prelude.{◌≡◌, map, option_map, IfOk};
-ghost use Rattle.c_types.specs.Types.{type_of};
 ghost use Rattle.clight_syntax.specs.Code.TypedViews.{expr_of, assignment_of, earlier_argument_of, arguments_of, call_of};
 
 use cerco_base::NoMemory;
-use c_types::Ty;
 use clight_syntax::typed::{Arguments, Assignment, Call, EarlierArgument, Expr};
 use std::alloc::Global;
-
-/// A copy of a type.
-pub fn copy_type(alloc: Global, ty: &Ty) -> Result<Ty, NoMemory>
-    ensures { IfOk result (λ r. type_of r ≡ type_of ty.now) }
-{
-    Ok(match ty {
-        Ty::Void => Ty::Void,
-        Ty::U8 => Ty::U8,
-        Ty::I8 => Ty::I8,
-        Ty::I16 => Ty::I16,
-        Ty::U16 => Ty::U16,
-        Ty::I32 => Ty::I32,
-        Ty::U32 => Ty::U32,
-        Ty::Pointer(target) => Ty::Pointer(Box::new(alloc, copy_type(alloc, target)?)?),
-        Ty::Array(element, count) => Ty::Array(
-            Box::new(alloc, copy_type(alloc, element)?)?,
-            *count,
-        ),
-        Ty::Struct(number) => Ty::Struct(*number),
-    })
-}
 
 /// A copy of an expression.
 pub fn copy_expr(alloc: Global, e: &Expr) -> Result<Expr, NoMemory>
@@ -35,36 +12,36 @@ pub fn copy_expr(alloc: Global, e: &Expr) -> Result<Expr, NoMemory>
 {
     Ok(match e {
         Expr::Variable(ty, variable, name) => Expr::Variable(
-            copy_type(alloc, ty)?,
+            ty.duplicate(alloc)?,
             *variable,
             *name,
         ),
-        Expr::Number(ty, number, span) => Expr::Number(copy_type(alloc, ty)?, *number, *span),
+        Expr::Number(ty, number, span) => Expr::Number(ty.duplicate(alloc)?, *number, *span),
         Expr::Parenthesis(ty, left, inner, right) => {
             let inner = Box::new(alloc, copy_expr(alloc, inner)?)?;
-            Expr::Parenthesis(copy_type(alloc, ty)?, *left, inner, *right)
+            Expr::Parenthesis(ty.duplicate(alloc)?, *left, inner, *right)
         }
         Expr::Binary(ty, left, operator, at, right) => {
             let left = Box::new(alloc, copy_expr(alloc, left)?)?;
             let right = Box::new(alloc, copy_expr(alloc, right)?)?;
-            Expr::Binary(copy_type(alloc, ty)?, left, *operator, *at, right)
+            Expr::Binary(ty.duplicate(alloc)?, left, *operator, *at, right)
         }
         Expr::Prefix(ty, operator, at, operand) => {
             let operand = Box::new(alloc, copy_expr(alloc, operand)?)?;
-            Expr::Prefix(copy_type(alloc, ty)?, *operator, *at, operand)
+            Expr::Prefix(ty.duplicate(alloc)?, *operator, *at, operand)
         }
         Expr::Cast(ty, left, words, right, operand) => {
             let operand = Box::new(alloc, copy_expr(alloc, operand)?)?;
-            Expr::Cast(copy_type(alloc, ty)?, *left, *words, *right, operand)
+            Expr::Cast(ty.duplicate(alloc)?, *left, *words, *right, operand)
         }
         Expr::Index(ty, base, left, index, right) => {
             let base = Box::new(alloc, copy_expr(alloc, base)?)?;
             let index = Box::new(alloc, copy_expr(alloc, index)?)?;
-            Expr::Index(copy_type(alloc, ty)?, base, *left, index, *right)
+            Expr::Index(ty.duplicate(alloc)?, base, *left, index, *right)
         }
         Expr::Member(ty, base, operator, at, name, offset) => {
             let base = Box::new(alloc, copy_expr(alloc, base)?)?;
-            Expr::Member(copy_type(alloc, ty)?, base, *operator, *at, *name, *offset)
+            Expr::Member(ty.duplicate(alloc)?, base, *operator, *at, *name, *offset)
         }
     })
 }

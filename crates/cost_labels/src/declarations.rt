@@ -1,15 +1,17 @@
 //! Copies of declarations and of what a program knows of its variables and structs.
 ghost use Rattle.std.specs.Prelude.{◌≡◌, map, IfOk};
 ghost use Rattle.clight_source.specs.Code.Views.{declared_of, declaration_of, member_of as declared_member_of, struct_of, initialiser_of, global_of, earlier_parameter_of, parameters_of, header_of, prototype_of};
-ghost use Rattle.clight_syntax.specs.Code.TypedViews.{local_initialiser_of, local_of, item_of, variable_of, member_of, struct_type_of};
+ghost use Rattle.c_types.specs.Types.{member_of, struct_type_of};
+ghost use Rattle.clight_syntax.specs.Code.TypedViews.{local_initialiser_of, local_of, item_of, variable_of};
 
-use crate::copies::{copy_expr, copy_type};
+use crate::copies::copy_expr;
+use c_types::{MemberType, StructType};
 use cerco_base::NoMemory;
 use clight_source::tree::{
     Declaration, Declared, EarlierParameter, Global as GlobalVariable, Header, Initialiser, Member,
     Parameters, Prototype, StructDefinition,
 };
-use clight_syntax::typed::{Item, Local, LocalInitialiser, MemberType, StructType, Variable};
+use clight_syntax::typed::{Item, Local, LocalInitialiser, Variable};
 use std::alloc::Global;
 
 // A copy of a declarator with the words before it.
@@ -215,7 +217,7 @@ fn copy_variable(alloc: Global, x: &Variable) -> Result<Variable, NoMemory>
 {
     Ok(Variable {
         name: x.name,
-        ty: copy_type(alloc, &x.ty)?,
+        ty: x.ty.duplicate(alloc)?,
         home: x.home,
         address: x.address,
     })
@@ -238,7 +240,7 @@ fn copy_member_type(alloc: Global, x: &MemberType) -> Result<MemberType, NoMemor
 {
     Ok(MemberType {
         name: x.name,
-        ty: copy_type(alloc, &x.ty)?,
+        ty: x.ty.duplicate(alloc)?,
         offset: x.offset,
     })
 }

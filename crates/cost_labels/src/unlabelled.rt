@@ -4,7 +4,7 @@ ghost use Rattle.clight_syntax.specs.Code.TypedViews.{cond_of, test_of, for_head
 ghost use Rattle.clight_syntax.specs.Labelling.{cond_without, test_without, head_without, stmt_without, stmts_without, function_without};
 
 use crate::copies::{
-    copy_assignment, copy_call, copy_expr, copy_optional_assignment, copy_optional_expr, copy_type,
+    copy_assignment, copy_call, copy_expr, copy_optional_assignment, copy_optional_expr,
 };
 use crate::declarations::{copy_header, copy_locals};
 use cerco_base::{Label, NoMemory};
@@ -138,7 +138,7 @@ fn function_alone(alloc: Global, x: &Function<Label>) -> Result<Function<()>, No
 {
     Ok(Function {
         header: copy_header(alloc, &x.header)?,
-        result: copy_type(alloc, &x.result)?,
+        result: x.result.duplicate(alloc)?,
         first_variable: x.first_variable,
         parameters: x.parameters,
         left: x.left,

@@ -9,7 +9,7 @@ use Rattle.clight_syntax.specs.TypedTrees.{Stmts, Function, FunctionItem, TypedP
 use Rattle.clight_names.specs.Spellings.{main_name}
 use Rattle.clight_typing.specs.Functions.{File}
 use Rattle.clight_typing.specs.Programs.{after_function, no_file}
-use Rattle.clight_typing.specs.TypedExpressions.{Checked, ◌>>=◌}
+use Rattle.clight_types.specs.TypedExpressions.{Checked, ◌>>=◌}
 use Rattle.clight_typing.specs.TypedStatements.{typed_stmts}
 use Rattle.clight_typing.specs.TypedPrograms.{Items, around, function_with, program_with, typed_program}
 use Rattle.clight_layout.specs.Layout.{IsLayout}

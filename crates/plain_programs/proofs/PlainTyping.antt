@@ -8,14 +8,15 @@ use Rattle.clight_source.specs.declared.span.Span.{Span}
 use Rattle.clight_source.specs.declared.symbol.Radix.{Radix}
 use Rattle.clight_source.specs.declared.symbol.Radix.TheVariants.{Decimal, Octal, Hexadecimal}
 use Rattle.clight_source.specs.Trees as s
-use Rattle.c_types.specs.Types.{CType, Integer, One, Two}
-use Rattle.c_types.specs.Conversions.{first_with_value, int, unsigned_int, long, unsigned_long, unsigned_char}
-use Rattle.clight_syntax.specs.LiteralTypes.{candidates}
+use Rattle.c_types.specs.declared.integers.Size.TheVariants.{One, Two}
+use Rattle.c_types.specs.Types.{CType, Integer}
+use Rattle.c_types.specs.Conversions.{first_with_value, int, unsigned_int, long, unsigned_long, unsigned_char, candidates}
 use Rattle.clight_syntax.specs.TypedTrees.{Expr, Number, Parenthesis, type_at, Stmt, WritePort, Stmts, NoStmts, Then, TypedProgram}
-use Rattle.clight_typing.specs.Operands.{is_integer, is_value, is_four_bytes, value_type, operand}
-use Rattle.clight_typing.specs.Scopes.{Scope}
+use Rattle.c_types.specs.Kinds.{is_integer, is_four_bytes, value_type}
+use Rattle.clight_types.specs.Operands.{is_value, operand}
+use Rattle.clight_types.specs.Scopes.{Scope}
 use Rattle.clight_typing.specs.Statements.{Body}
-use Rattle.clight_typing.specs.TypedExpressions.{Checked, Judged, Typed, fault, ◌>>=◌, judged, value_in, in_parentheses, expr_place}
+use Rattle.clight_types.specs.TypedExpressions.{Checked, Judged, Typed, fault, ◌>>=◌, judged, value_in, in_parentheses, expr_place}
 use Rattle.clight_typing.specs.TypedStatements.{typed_stmt, typed_stmts}
 use Rattle.clight_values.specs.declared.value.Value.TheVariants as v
 use Rattle.clight_values.specs.Memory.{State}
@@ -86,7 +87,7 @@ number_typed scope (s.Parenthesis left e right) n h =
     let x = number_typed scope e n h in
     record {
       tree = Parenthesis (type_at x.tree) left x.tree right;
-      is = ap (λ (j : Checked Judged). j >>= in_parentheses left right e) x.is;
+      is = ap (λ (j : Checked Judged). j >>= (λ inner. Ok (in_parentheses left right inner))) x.is;
       signed = x.signed;
       type = x.type;
       value_is = x.value_is;

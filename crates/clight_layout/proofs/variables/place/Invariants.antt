@@ -1,5 +1,6 @@
 use Rattle.std.proofs.Common.{◌≡◌, ◌++◌, map, take, drop}
-use Rattle.clight_syntax.specs.Code.TypedViews.{struct_type_of, variable_of}
+use Rattle.c_types.specs.Types.{struct_type_of}
+use Rattle.clight_syntax.specs.Code.TypedViews.{variable_of}
 use Rattle.clight_layout.specs.Frames.{placed}
 use Rattle.clight_layout.proofs.variables.place.Given as goal
 

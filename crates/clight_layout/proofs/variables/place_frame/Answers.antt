@@ -1,6 +1,7 @@
 use Rattle.std.proofs.Common.{◌-◌, length, ap, ◌∙◌}
 use Rattle.std.specs.Prelude.{min}
-use Rattle.clight_syntax.specs.Code.TypedViews.{function_of, struct_type_of}
+use Rattle.c_types.specs.Types.{struct_type_of}
+use Rattle.clight_syntax.specs.Code.TypedViews.{function_of}
 use Rattle.clight_layout.proofs.Ranges.{frame_is}
 use Rattle.std.proofs.Common.{map}
 use Rattle.clight_layout.proofs.variables.place_frame.Goals as goal

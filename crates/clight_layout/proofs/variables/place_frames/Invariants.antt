@@ -1,5 +1,6 @@
 use Rattle.std.proofs.Common.{◌≡◌, map, drop}
-use Rattle.clight_syntax.specs.Code.TypedViews.{struct_type_of, variable_of, function_of}
+use Rattle.c_types.specs.Types.{struct_type_of}
+use Rattle.clight_syntax.specs.Code.TypedViews.{variable_of, function_of}
 use Rattle.clight_layout.specs.Frames.{with_frames}
 use Rattle.clight_layout.proofs.variables.place_frames.Given as goal
 

@@ -1,9 +1,9 @@
-use Rattle.std.proofs.Common.{refl, sym, ◌∙◌, arith}
+use Rattle.std.proofs.Common.{[], refl, sym, ◌∙◌, arith}
 use Rattle.clight_reader.proofs.Stops.{at_start, next_reads, at_terminal, at_end, at_nodes}
 use Rattle.clight_reader.proofs.reading.recognise.Goals as goal
 
 pub loop-i-init : goal.loop-i-init
-loop-i-init c = record { reads = at_start _ _ c.new-nodes.ensures.items; goes_on = refl }
+loop-i-init c = record { reads = at_start [] _ c.new-nodes.ensures.items; goes_on = refl }
 
 pub returns-then-is_refused-clause-fault : goal.returns-then-is_refused-clause-fault
 returns-then-is_refused-clause-fault c =

@@ -4,8 +4,8 @@ use Rattle.std.proofs.lemmas.Iterator.Consumers.{YieldsList-turn}
 use Rattle.std.proofs.lemmas.Iterator.Adapters.{YieldsList-from_vec}
 use Rattle.clight_syntax.specs.TypedTrees.{Variable'}
 use Rattle.clight_syntax.specs.Code.TypedViews.{variable_of}
-use Rattle.clight_types.specs.Functions.{variables_from, own_variable, has_block, counted, home_of}
-use Rattle.clight_types.specs.Operands.{is_scalar}
+use Rattle.clight_typing.specs.Functions.{variables_from, own_variable, has_block, counted, home_of}
+use Rattle.c_types.specs.Kinds.{is_scalar}
 use Rattle.clight_typing.specs.HeldFile.{a_variable}
 use Rattle.clight_typing.specs.HeldOwn.{own_of}
 use Rattle.indexmap.specs.IndexSet.{contains}

@@ -1,7 +1,7 @@
 use Rattle.std.proofs.Common.{◌≡◌, ◌∙◌, ℕ, suc, ◌+◌, ◌≤◌, Bool, true, false, ◌||◌, List, [], ◌∷◌, length, cond, drop, nat_eq, get_or, ap, sym, arith, add-one, drop-cons, refl}
 use Rattle.std.proofs.Math.Path.{fun_ext}
 use Rattle.std.proofs.lemmas.List.{drop_all}
-use Rattle.clight_types.specs.Statements.{is_among}
+use Rattle.clight_typing.specs.Statements.{is_among}
 use Rattle.indexmap.specs.IndexSet.{contains}
 use Rattle.clight_typing.proofs.taken.set_of.Goals as goal
 

@@ -1,5 +1,5 @@
 use Rattle.std.proofs.Common.{◌≡◌, ℕ, ◌||◌, drop, nat_eq}
-use Rattle.clight_types.specs.Statements.{is_among}
+use Rattle.clight_typing.specs.Statements.{is_among}
 use Rattle.indexmap.specs.IndexSet.{contains}
 use Rattle.clight_typing.proofs.taken.set_of.Given as goal
 

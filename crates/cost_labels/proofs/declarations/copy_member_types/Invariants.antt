@@ -1,5 +1,5 @@
 use Rattle.std.proofs.Common.{◌≡◌, map, take}
-use Rattle.clight_syntax.specs.Code.TypedViews.{member_of}
+use Rattle.c_types.specs.Types.{member_of}
 use Rattle.cost_labels.proofs.declarations.copy_member_types.Given as goal
 
 abbrev pub invariant-loop-x : goal.invariant-loop-x

@@ -3,12 +3,12 @@ use Rattle.c_types.specs.Types.{CType, StructType, type_of}
 use Rattle.clight_syntax.specs.TypedTrees.{Variable'}
 use Rattle.clight_syntax.specs.Code.TypedViews.{function_of, variable_of}
 use Rattle.clight_source.specs.Code.Views.{function_of as source_of}
-use Rattle.clight_types.specs.Functions.{File, variables_from}
+use Rattle.clight_typing.specs.Functions.{File, variables_from}
 use Rattle.clight_types.specs.Scopes.{Meanings}
 use Rattle.clight_typing.specs.HeldFile.{file_for}
 use Rattle.clight_types.specs.Declarations.{parameters_of}
 use Rattle.clight_typing.specs.HeldFunction.{U, Function', parts_of, with_end, typed_parts, taken_within}
-use Rattle.clight_types.specs.Statements.{is_among}
+use Rattle.clight_typing.specs.Statements.{is_among}
 use Rattle.clight_typing.specs.HeldOwn.{own_of}
 use Rattle.clight_typing.specs.HeldScopes.{file_names}
 use Rattle.clight_types.specs.TypedExpressions.{TypeFault, Checked, ◌>>=◌}

@@ -2,7 +2,7 @@ use Rattle.std.proofs.Common.{◌≡◌, ◌∙◌, ℕ, suc, ◌+◌, ◌++◌,
 use Rattle.std.proofs.lemmas.List.{map-append, length_push, append-nil}
 use Rattle.std.proofs.lemmas.Iterator.Consumers.{YieldsList-turn}
 use Rattle.std.proofs.lemmas.Iterator.Adapters.{YieldsList-from_vec}
-use Rattle.clight_types.specs.Functions.{Own, object}
+use Rattle.clight_typing.specs.Functions.{Own, object}
 use Rattle.clight_typing.specs.HeldFile.{an_own, with_owns}
 use Rattle.clight_typing.specs.HeldOwn.{own_of}
 use Rattle.clight_typing.specs.HeldScopes.{scope_of, declared_in}

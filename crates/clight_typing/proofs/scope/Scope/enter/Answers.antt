@@ -1,7 +1,7 @@
 use Rattle.std.proofs.Common.{◌≡◌, ◌∙◌, List, map, ap}
 use Rattle.clight_source.specs.Code.Views.{parameters_of as source_of}
 use Rattle.clight_types.specs.Declarations.{parameters_of}
-use Rattle.clight_types.specs.Functions.{parameter_own}
+use Rattle.clight_typing.specs.Functions.{parameter_own}
 use Rattle.clight_typing.specs.HeldFile.{with_owns}
 use Rattle.clight_typing.specs.HeldOwn.{own_of}
 use Rattle.clight_typing.specs.HeldScopes.{file_names, scope_of}

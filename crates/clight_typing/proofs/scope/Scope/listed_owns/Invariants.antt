@@ -1,5 +1,5 @@
 use Rattle.std.proofs.Common.{◌≡◌, ◌++◌, map, drop}
-use Rattle.clight_types.specs.Functions.{parameter_own}
+use Rattle.clight_typing.specs.Functions.{parameter_own}
 use Rattle.clight_typing.specs.HeldOwn.{own_of, listed}
 use Rattle.clight_typing.specs.HeldScopes.{scope_of}
 use Rattle.clight_typing.proofs.scope.Scope.listed_owns.Given as goal

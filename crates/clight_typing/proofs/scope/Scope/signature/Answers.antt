@@ -2,7 +2,7 @@ use Rattle.std.proofs.Common.{◌∙◌, List, map, ap}
 use Rattle.c_types.specs.Types.{CType, type_of}
 use Rattle.clight_source.specs.Code.Views.{header_of}
 use Rattle.clight_types.specs.Declarations.{declared_type, parameters_of}
-use Rattle.clight_types.specs.Functions.{Own}
+use Rattle.clight_typing.specs.Functions.{Own}
 use Rattle.clight_types.specs.Scopes.{Signature}
 use Rattle.clight_typing.proofs.Parameters.{own_types}
 use Rattle.clight_types.specs.HeldStructs.{structs_of}

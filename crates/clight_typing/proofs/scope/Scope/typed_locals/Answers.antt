@@ -6,7 +6,7 @@ use Rattle.clight_source.specs.Trees as s
 use Rattle.clight_syntax.specs.TypedTrees.{Local}
 use Rattle.clight_source.specs.Code.Views.{local_of as source_of}
 use Rattle.clight_syntax.specs.Code.TypedViews.{local_of}
-use Rattle.clight_types.specs.Functions.{Own}
+use Rattle.clight_typing.specs.Functions.{Own}
 use Rattle.clight_typing.specs.HeldFile.{source_own}
 use Rattle.clight_typing.specs.HeldOwn.{own_of}
 use Rattle.clight_typing.specs.HeldScopes.{scope_of}
