@@ -6,7 +6,7 @@ use Rattle.cerco_base.specs.declared.outside.faults.IoFault.{IoFault}
 use Rattle.cerco_base.specs.declared.outside.faults.IoFault.TheVariants as Io
 use Rattle.cerco_base.proofs.Putting.{SoFar, keeps_on, adds_on, keeps_same, rose_since}
 use Rattle.cerco_command.specs.Answers.{FellShort, Says, Answers}
-use Rattle.cerco_command.specs.Stages.{PutsFront}
+use Rattle.cerco_command.specs.Code.Stages.{PutsFront}
 use Rattle.cerco_command.specs.Status.{status_of}
 use Rattle.cerco_command.specs.declared.status.Status.{Status}
 use Rattle.cerco_command.specs.declared.status.Status.TheVariants.{OutFault, NoMemory}

@@ -15,7 +15,7 @@ use Rattle.cerco_command.specs.Answers.{AreWritten, ArePartlyWritten}
 use Rattle.cerco_command.specs.Building.{AreCompiled, outputs, HasFirstReason, SaysRefused, Builds, PartlyBuilds, IsOutput, BuildMeans}
 use Rattle.cerco_command.specs.Inputs.{IsRead, CannotRead}
 use Rattle.cerco_command.specs.Messages.{no_file}
-use Rattle.cerco_command.specs.Stages.{IsNameOf, Finishes, BuildsOn}
+use Rattle.cerco_command.specs.Code.Stages.{IsNameOf, Finishes, BuildsOn}
 use Rattle.cerco_command.proofs.Writing.{written_from, partly_from}
 use Rattle.cerco_command.specs.declared.status.Status.{Status}
 use Rattle.cerco_command.specs.declared.status.Status.TheVariants.{Done, NoFile, Refused, FileFault, NoMemory}

@@ -22,7 +22,7 @@ use Rattle.plain_programs.specs.PlainPrograms.{Plain, points}
 use Rattle.plain_programs.proofs.Headlines.{keeps_to_labelled}
 use Rattle.cerco_command.specs.PlainPrograms.{IsPlainProgram}
 use Rattle.cerco_command.proofs.PlainTrees.{few, are_bytes}
-use Rattle.cerco_command.specs.PortObjects.{write, code, labels, costs}
+use Rattle.cerco_command.specs.Code.PortObjects.{write, code, labels, costs}
 use Rattle.cerco_command.specs.Building.{IsCompiled, AreCompiled}
 use Rattle.object_hex.specs.HexText.{hex_text}
 use Rattle.object_hex.specs.MapText.{map_text}

@@ -12,7 +12,7 @@ use Rattle.mcs51_isa.specs.Listing.{line_of}
 use Rattle.cerco_command.specs.Answers.{Says, Answers}
 use Rattle.cerco_command.specs.Messages.{reserved_line}
 use Rattle.cerco_command.specs.Disassembly.{listed_at, end_of, StandFrom, lines_from, Ends, ListsTo}
-use Rattle.cerco_command.specs.Stages.{PutsFront, LineListed}
+use Rattle.cerco_command.specs.Code.Stages.{PutsFront, LineListed}
 use Rattle.cerco_command.specs.Status.{status_of}
 use Rattle.cerco_command.specs.declared.status.Status.{Status}
 use Rattle.cerco_command.specs.declared.status.Status.TheVariants as Is

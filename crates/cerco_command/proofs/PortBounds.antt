@@ -4,7 +4,7 @@ use Rattle.mcs51_isa.specs.declared.instr.Instr.TheVariants.{Ret}
 use Rattle.mcs51_isa.specs.declared.instr.ReturnKind.TheVariants.{FromCall}
 use Rattle.sim51.specs.Placed.{bytes_of, Stands}
 use Rattle.sim51.proofs.Placed.{length-code_of_instrs, bytes_of-append, instrs_there}
-use Rattle.cerco_command.specs.PortObjects.{write, instructions, code}
+use Rattle.cerco_command.specs.Code.PortObjects.{write, instructions, code}
 
 bytes_of_writes : (vs : List ℕ) → bytes_of (map write vs) ≡ 3 * length vs
 bytes_of_writes [] = refl

@@ -5,7 +5,7 @@ use Rattle.mcs51_isa.specs.declared.instr.Instr.{Instr}
 use Rattle.mcs51_isa.specs.Table.{encode_of}
 use Rattle.sim51.specs.Placed.{code_of_instrs}
 use Rattle.sim51.proofs.Placed.{code_of_instrs-append}
-use Rattle.cerco_command.specs.PortObjects.{write}
+use Rattle.cerco_command.specs.Code.PortObjects.{write}
 
 pub one_more : (code : List ℕ) (byte : ℕ) (is : List Instr) (i : Instr) → (code ++ byte ∷ code_of_instrs is) ++ encode_of i ≡ code ++ byte ∷ code_of_instrs (is ++ i ∷ [])
 one_more code byte is i =

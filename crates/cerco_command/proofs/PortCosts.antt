@@ -4,7 +4,7 @@ use Rattle.std.proofs.lemmas.List.Sums.{sum_by-cons, sum_by-append}
 use Rattle.mcs51_isa.specs.Table.{cycles_of}
 use Rattle.mcs51_isa.specs.declared.instr.Instr.TheVariants.{Nop, Ret}
 use Rattle.mcs51_isa.specs.declared.instr.ReturnKind.TheVariants.{FromCall}
-use Rattle.cerco_command.specs.PortObjects.{write, body, cost_of}
+use Rattle.cerco_command.specs.Code.PortObjects.{write, body, cost_of}
 
 cost_of_writes : (values : List ℕ) → cost_of (map write values) ≡ 2 * length values
 cost_of_writes [] = refl

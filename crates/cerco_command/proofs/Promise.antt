@@ -26,7 +26,7 @@ use Rattle.sim51.proofs.Objects.{running_due, running_ended}
 use Rattle.sim51.proofs.Placed.{stands_front, stands_back}
 use Rattle.sim51.proofs.StraightRuns.{silent_step, label_step, straight_run}
 use Rattle.plain_programs.specs.PlainPrograms.{meaning, writes}
-use Rattle.cerco_command.specs.PortObjects.{instructions, write, labels}
+use Rattle.cerco_command.specs.Code.PortObjects.{instructions, write, labels}
 
 -- after the label of `main` there is none
 no_labels : (is : List Instr) (a : ℕ) → 9 ≤ a → HaveNoLabel labels a is

@@ -20,7 +20,7 @@ use Rattle.sim51.specs.Skips.{no_events, LeadsBy, Skips}
 use Rattle.cerco_command.specs.Answers.{Says, Answers}
 use Rattle.cerco_command.specs.Messages.{event_line, event_lines, end_line, stop_line, reserved_line}
 use Rattle.cerco_command.specs.Running.{GoesOn, Stops, RunsTo}
-use Rattle.cerco_command.specs.Stages.{PutsFront, StepPrinted}
+use Rattle.cerco_command.specs.Code.Stages.{PutsFront, StepPrinted}
 use Rattle.cerco_command.specs.Status.{status_of}
 use Rattle.cerco_command.specs.declared.status.Status.{Status}
 use Rattle.cerco_command.specs.declared.status.Status.TheVariants as Is

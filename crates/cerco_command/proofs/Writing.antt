@@ -5,7 +5,7 @@ use Rattle.std.specs.Result.{IsErrAnd}
 use Rattle.cerco_base.specs.Outside.IoStates.{FilesState, SameFiles, Puts}
 use Rattle.cerco_base.proofs.Putting.{rose_since}
 use Rattle.cerco_command.specs.Answers.{NamedText, AreWritten, ArePartlyWritten}
-use Rattle.cerco_command.specs.Stages.{IsNameOf, CannotWrite, WritesAll, Finishes}
+use Rattle.cerco_command.specs.Code.Stages.{IsNameOf, CannotWrite, WritesAll, Finishes}
 use Rattle.cerco_command.specs.declared.reply.Reply.{Reply}
 use Rattle.cerco_command.specs.declared.status.Status.{Status}
 use Rattle.cerco_command.specs.declared.status.Status.TheVariants.{FileFault, NoMemory}

@@ -3,13 +3,11 @@ pub mod Status
 pub mod Messages
 pub mod Refusals
 pub mod PlainPrograms
-pub mod PlainViews
-pub mod PortObjects
 pub mod Answers
 pub mod Inputs
 pub mod Building
 pub mod Running
 pub mod Disassembly
-pub mod Stages
 pub mod Top
 pub mod Once
+pub mod Code

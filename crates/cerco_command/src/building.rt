@@ -8,10 +8,10 @@ ghost use Rattle.clight_tokens.specs.SourceTrees.{IsSourceTree};
 ghost use Rattle.clight_source.specs.Code.Views.{program_of};
 ghost use Rattle.plain_programs.specs.PlainPrograms.{points};
 ghost use Rattle.cerco_command.specs.PlainPrograms.{IsPlainProgram};
-ghost use Rattle.cerco_command.specs.PlainViews.{plain_of};
+ghost use Rattle.cerco_command.specs.Code.PlainViews.{plain_of};
 ghost use Rattle.cerco_command.specs.Words.{files_of, HaveDifferentNames};
 ghost use Rattle.cerco_command.specs.Building.{AreCompiled, outputs, BuildMeans};
-ghost use Rattle.cerco_command.specs.Stages.{IsProgram, IsNoProgram, WritesAll, Finishes, BuildsOn};
+ghost use Rattle.cerco_command.specs.Code.Stages.{IsProgram, IsNoProgram, WritesAll, Finishes, BuildsOn};
 
 use crate::inputs::read_input;
 use crate::plain_program::{PlainProgram, plain_program};

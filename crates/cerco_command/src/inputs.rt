@@ -6,7 +6,7 @@ ghost use Rattle.object_hex.specs.HexMeaning.{IsHexText};
 ghost use Rattle.object_hex.specs.MapMeaning.{IsMapText};
 ghost use Rattle.cerco_command.specs.Inputs.{IsRead, CannotRead, longest, HasNoCode, HasNoLabels};
 ghost use Rattle.cerco_command.specs.Messages.{bad_file};
-ghost use Rattle.cerco_command.specs.Stages.{Replies};
+ghost use Rattle.cerco_command.specs.Code.Stages.{Replies};
 ghost use Rattle.cerco_command.specs.declared.status.Status.TheVariants as Is;
 
 use crate::reply::{Reply, bad_file, bad_hex, bad_map, file_fault, no_file, silent};

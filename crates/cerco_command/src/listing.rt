@@ -4,7 +4,7 @@ ghost use Rattle.cerco_base.specs.Outside.InMemory.{sound_sink_state};
 ghost use Rattle.mcs51_isa.specs.Decoding.{with_length};
 ghost use Rattle.cerco_command.specs.Answers.{Answers};
 ghost use Rattle.cerco_command.specs.Disassembly.{listed_at, ListsTo, ListMeans, ListMeansFor};
-ghost use Rattle.cerco_command.specs.Stages.{LineListed};
+ghost use Rattle.cerco_command.specs.Code.Stages.{LineListed};
 
 use crate::inputs::{READ_LIMIT, check_length, read_code, read_input};
 use crate::printing::{put_pending, put_reserved};

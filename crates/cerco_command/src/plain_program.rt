@@ -2,7 +2,7 @@
 ghost use Rattle.std.specs.Prelude.{◌≡◌, option_map, IfOk};
 ghost use Rattle.clight_source.specs.Code.Views.{expr_of, stmt_of, stmts_of, declared_of, header_of, function_of, program_of};
 ghost use Rattle.plain_programs.specs.PlainPrograms as s;
-ghost use Rattle.cerco_command.specs.PlainViews.{plain_of};
+ghost use Rattle.cerco_command.specs.Code.PlainViews.{plain_of};
 
 use cerco_base::NoMemory;
 use clight_source::tree::{Declared, Header, Item, Parameters, Specifiers};

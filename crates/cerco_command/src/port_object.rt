@@ -1,7 +1,7 @@
 //! Compiles the programs that do nothing but write numbers to port 1.
 ghost use Rattle.std.specs.Prelude.{◌≡◌, ◌++◌, ◌<◌, ◌^◌, ◌∷◌, [], length, OnOk, IfOk};
-ghost use Rattle.cerco_command.specs.PortObjects.{code, costs, cost_of, labels};
-ghost use Rattle.cerco_command.specs.PortObjects as spec;
+ghost use Rattle.cerco_command.specs.Code.PortObjects.{code, costs, cost_of, labels};
+ghost use Rattle.cerco_command.specs.Code.PortObjects as spec;
 ghost use Rattle.mcs51_isa.specs.Table.{encode_of};
 ghost use Rattle.sim51.specs.Placed.{code_of_instrs};
 

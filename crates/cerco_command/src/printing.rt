@@ -4,7 +4,7 @@ ghost use Rattle.cerco_base.specs.Outside.IoCalls.{PutsText};
 ghost use Rattle.cerco_base.specs.Outside.InMemory.{sound_sink_state};
 ghost use Rattle.sim51.specs.Runs.{events_of, label_events};
 ghost use Rattle.cerco_command.specs.Messages.{line_about, reserved_line, port_lines, event_lines};
-ghost use Rattle.cerco_command.specs.Stages.{PutsFront};
+ghost use Rattle.cerco_command.specs.Code.Stages.{PutsFront};
 
 use crate::line::Line;
 use cerco_base::{IoFault, Label, Port, Sink, SoundSink, hex_word, put_all};

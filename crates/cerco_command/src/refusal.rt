@@ -2,7 +2,7 @@
 ghost use Rattle.std.specs.Prelude.{◌≡◌, codes, decimal, string_bytes};
 ghost use Rattle.cerco_command.specs.Messages.{line_about};
 ghost use Rattle.cerco_command.specs.Refusals as s;
-ghost use Rattle.cerco_command.specs.Stages.{Replies};
+ghost use Rattle.cerco_command.specs.Code.Stages.{Replies};
 ghost use Rattle.cerco_command.specs.declared.status.Status.TheVariants as Is;
 
 use crate::reply::{Reply, silent};

@@ -2,7 +2,7 @@
 ghost use Rattle.std.specs.Prelude.{◌≡◌, [], codes, decimal, string_bytes};
 ghost use Rattle.cerco_command.specs.Answers.{Says};
 ghost use Rattle.cerco_command.specs.Messages.{line_about, no_file, file_fault, bad_file, bad_hex, bad_map, usage, unsupported, kind_word};
-ghost use Rattle.cerco_command.specs.Stages.{Replies};
+ghost use Rattle.cerco_command.specs.Code.Stages.{Replies};
 ghost use Rattle.cerco_command.specs.declared.status.Status.TheVariants as Is;
 
 use crate::status::Status;

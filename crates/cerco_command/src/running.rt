@@ -8,7 +8,7 @@ ghost use Rattle.cerco_command.specs.Answers.{Answers};
 ghost use Rattle.cerco_command.specs.Inputs.{CannotRead, longest, NoneTooLong, AreObject};
 ghost use Rattle.cerco_command.specs.Running.{names_of, texts_of, with_names, AreTextsOf, RunsTo, RunMeans, RunMeansFor, CannotLoad};
 ghost use Rattle.cerco_command.specs.Once.{StopsOnce};
-ghost use Rattle.cerco_command.specs.Stages.{StepPrinted};
+ghost use Rattle.cerco_command.specs.Code.Stages.{StepPrinted};
 ghost use Rattle.cerco_command.specs.Words.{run_of_words};
 
 use crate::inputs::{READ_LIMIT, check_length, read_code, read_input, read_labels};

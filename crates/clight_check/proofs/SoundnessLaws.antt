@@ -10,7 +10,7 @@ use Rattle.clight_names.specs.NameFaults.{NameFault, first_name_fault, name_faul
 use Rattle.clight_types.specs.TypedExpressions.{Checked, fault}
 use Rattle.clight_typing.specs.TypedPrograms.{typed_program}
 use Rattle.clight_layout.specs.Layout.{IsLayout}
-use Rattle.clight_layout.specs.Outcomes.{IsReason}
+use Rattle.clight_layout.specs.Reasons.{IsReason}
 use Rattle.clight_check.specs.Soundness.{IsSound, IsUnsound, HasNoLayout}
 use Rattle.clight_check.specs.Laws.{NotBoth, ReasonIsUnique, TreeIsUnique}
 use Rattle.clight_check.proofs.UniqueLayouts.{one_layout, one_reason, laid_out_or_refused}

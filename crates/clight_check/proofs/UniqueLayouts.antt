@@ -8,7 +8,7 @@ use Rattle.cerco_base.specs.declared.reasons.Reason.TheVariants as r
 use Rattle.call_graph.specs.CallPaths.{IsCallPath, IsFirstOnCycle, IsLargestSum, IsLargestSumBefore, sum_along}
 use Rattle.clight_syntax.specs.TypedTrees.{TypedProgram}
 use Rattle.clight_layout.specs.Layout.{IsTotal, IsStart, IsLayout, laid_out}
-use Rattle.clight_layout.specs.Outcomes.{IsReason, defined_at}
+use Rattle.clight_layout.specs.Reasons.{IsReason, defined_at}
 use Rattle.clight_check.specs.Laws.{without_order}
 
 sum-le : (functions : ℕ) (calls : ℕ → ℕ → Type 0) (sizes : List ℕ) (n m : ℕ) → IsLargestSum functions calls sizes n → IsLargestSum functions calls sizes m → n ≤ m

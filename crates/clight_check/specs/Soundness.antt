@@ -13,7 +13,7 @@ use Rattle.clight_names.specs.NameFaults.{first_name_fault, name_fault}
 use Rattle.clight_types.specs.TypedExpressions.{fault}
 use Rattle.clight_typing.specs.TypedPrograms.{typed_program}
 use Rattle.clight_layout.specs.Layout.{IsLayout}
-use Rattle.clight_layout.specs.Outcomes.{IsReason}
+use Rattle.clight_layout.specs.Reasons.{IsReason}
 
 -- p is sound: its names are right, and this is its typed tree with its layout and the order of its calls
 pub record IsSound (p : Program) (t : TypedProgram (Unit {0})) : Type 0 where

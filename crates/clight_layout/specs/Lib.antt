@@ -1,4 +1,5 @@
 pub mod Calls
 pub mod Frames
 pub mod Layout
-pub mod Outcomes
+pub mod Reasons
+pub mod Code

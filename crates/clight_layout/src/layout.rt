@@ -4,7 +4,8 @@ ghost use Rattle.call_graph.specs.CallPaths.{IsOrderOf};
 ghost use Rattle.clight_syntax.specs.Code.TypedViews.{function_of, program_of};
 ghost use Rattle.clight_layout.specs.Calls.{callees};
 ghost use Rattle.clight_layout.specs.Layout.{HasNoCycle, IsDepth, greatest_depth, global_bytes, frame_sizes as frame_sizes_lem, laid_out, IsLayout};
-ghost use Rattle.clight_layout.specs.Outcomes.{defined_at as defined_at_lem, Answers, IsMeasured};
+ghost use Rattle.clight_layout.specs.Reasons.{defined_at as defined_at_lem};
+ghost use Rattle.clight_layout.specs.Code.Outcomes.{Answers, IsMeasured};
 
 use crate::graph::graph_of;
 use crate::sizes::{Area, bytes_of, frame_sizes};

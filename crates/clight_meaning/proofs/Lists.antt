@@ -12,9 +12,9 @@ use Rattle.clight_values.specs.Memory.{Answer, State, initial}
 use Rattle.clight_meaning.specs.Expressions.{value}
 use Rattle.clight_meaning.specs.Meaning.{initials, joined, argument_values, converted_answer, variable_type}
 use Rattle.c_types.specs.Kinds.{is_scalar}
-use Rattle.clight_meaning.specs.Missing.{MayMiss, AddsArgument}
+use Rattle.clight_meaning.specs.Code.Missing.{MayMiss, AddsArgument}
 use Rattle.clight_values.proofs.Walks.{opened}
-use Rattle.clight_values.specs.Views.{variables_held}
+use Rattle.clight_values.specs.Code.Views.{variables_held}
 
 -- ---- the first values of scalars
 

@@ -13,7 +13,7 @@ use Rattle.clight_values.specs.declared.value.Value.{Value}
 use Rattle.clight_values.specs.declared.value.Value.TheVariants as v
 use Rattle.clight_values.specs.Memory.{Answer, State}
 use Rattle.clight_meaning.specs.Meaning.{Rest, only, says, passes, again, with_value, with_values, with_state, with_truth, with_byte, test, test_if_any, Calling, returned, taken, result_type, Goes, run, run_all, call_of, call, calls}
-use Rattle.clight_meaning.specs.Evaluation.{Way, ByBreak, ByContinue, ByReturn, Waiting, Chooser, Negation, AndThen, OrElse, Work, Run, All, Turn', Check, Outcome', Wait, Pass, Caller, Take, Leave, Faulty, run_list, loop_of, onward, standing, rest_of, Move, Silent, Says, SaysAndFails, Fails, Ends, quietly, listed, after_read, written, called_of, called, for_turned, for_begun, given_back, ran, turned, broken, chosen, decided, comes_out, outcome_of, checked, left_by, begun, stepped}
+use Rattle.clight_meaning.specs.Code.Evaluation.{Way, ByBreak, ByContinue, ByReturn, Waiting, Chooser, Negation, AndThen, OrElse, Work, Run, All, Turn', Check, Outcome', Wait, Pass, Caller, Take, Leave, Faulty, run_list, loop_of, onward, standing, rest_of, Move, Silent, Says, SaysAndFails, Fails, Ends, quietly, listed, after_read, written, called_of, called, for_turned, for_begun, given_back, ran, turned, broken, chosen, decided, comes_out, outcome_of, checked, left_by, begun, stepped}
 use Rattle.clight_meaning.proofs.Agreeing.{calls_unfold, for_turn, while_unfolds, do_unfolds, for_unfolds}
 
 -- what is seen of the move comes before the rest from there on

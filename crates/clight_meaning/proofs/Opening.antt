@@ -8,9 +8,9 @@ use Rattle.clight_syntax.specs.TypedTrees.{Function, TypedProgram}
 use Rattle.clight_values.specs.declared.value.Value.{Value}
 use Rattle.clight_values.specs.Memory.{State}
 use Rattle.clight_meaning.specs.Meaning.{Rest, only, passes, with_state, Calling, Goes, body_goes, entered, prepared, beginning, call_of, calls, source}
-use Rattle.clight_meaning.specs.Evaluation.{run_list, standing, rest_of, listed}
+use Rattle.clight_meaning.specs.Code.Evaluation.{run_list, standing, rest_of, listed}
 use Rattle.clight_meaning.specs.declared.running.Work.{Work as HeldWork}
-use Rattle.clight_meaning.specs.Holding.{works_held}
+use Rattle.clight_meaning.specs.Code.Holding.{works_held}
 use Rattle.clight_meaning.proofs.Agreeing.{calls_unfold}
 use Rattle.clight_meaning.proofs.Stacks.{works_held-nil}
 use Rattle.clight_meaning.proofs.Moving.{run_listed}

@@ -10,9 +10,9 @@ use Rattle.clight_source.specs.declared.span.Span.{Span}
 use Rattle.clight_syntax.proofs.TypedRows.{block_is}
 use Rattle.clight_values.specs.Memory.{State}
 use Rattle.cerco_base.specs.declared.events.Label.{Label}
-use Rattle.clight_meaning.specs.Evaluation as n
+use Rattle.clight_meaning.specs.Code.Evaluation as n
 use Rattle.clight_meaning.specs.declared.running.Work.{Work}
-use Rattle.clight_meaning.specs.Holding.{work_held, works_onto, works_held}
+use Rattle.clight_meaning.specs.Code.Holding.{work_held, works_onto, works_held}
 
 works_onto-last : (ws : List Work) (w : Work) (older : List n.Work) → works_onto (ws ++ w ∷ []) older ≡ work_held w ∷ works_onto ws older
 works_onto-last [] w older = refl

@@ -11,9 +11,9 @@ use Rattle.clight_meaning.specs.declared.turn.Turn.{Turn}
 use Rattle.clight_meaning.specs.declared.running.Running.{Running}
 use Rattle.clight_values.specs.Memory.{State}
 use Rattle.clight_meaning.specs.Meaning.{Rest, only, passes, says}
-use Rattle.clight_meaning.specs.Evaluation.{Work, Faulty, Move, Silent, Says, SaysAndFails, Fails, Ends, rest_of, stepped}
-use Rattle.clight_meaning.specs.Holding.{Matches, IsFaulty, Does, works_held}
-use Rattle.clight_meaning.specs.Views.{state_held}
+use Rattle.clight_meaning.specs.Code.Evaluation.{Work, Faulty, Move, Silent, Says, SaysAndFails, Fails, Ends, rest_of, stepped}
+use Rattle.clight_meaning.specs.Code.Holding.{Matches, IsFaulty, Does, works_held}
+use Rattle.clight_meaning.specs.Code.Views.{state_held}
 use Rattle.clight_meaning.specs.Turns.{Tells, rest_held}
 use Rattle.clight_meaning.proofs.Moving.{Moves, moves_step}
 use Rattle.clight_meaning.proofs.Weights.{Lessens, total_weight, lessens_step}

@@ -8,7 +8,7 @@ use Rattle.clight_syntax.specs.TypedTrees.{Cond, Truth, InParentheses, Not, Both
 use Rattle.clight_values.specs.declared.value.Value.{Value}
 use Rattle.clight_values.specs.declared.value.Value.TheVariants as v
 use Rattle.clight_values.specs.Memory.{Answer, State}
-use Rattle.clight_meaning.specs.Evaluation.{Way, ByBreak, ByContinue, ByReturn, Waiting, Chooser, Negation, AndThen, OrElse, Work, Run, All, Turn', Check, Outcome', Wait, Pass, Caller, Take, Leave, Faulty, Move, Silent, Says, SaysAndFails, Fails, Ends, quietly, listed, after_read, written, called_of, called, for_turned, for_begun, given_back, ran, turned, broken, chosen, decided, comes_out, outcome_of, checked, left_by, begun, stepped}
+use Rattle.clight_meaning.specs.Code.Evaluation.{Way, ByBreak, ByContinue, ByReturn, Waiting, Chooser, Negation, AndThen, OrElse, Work, Run, All, Turn', Check, Outcome', Wait, Pass, Caller, Take, Leave, Faulty, Move, Silent, Says, SaysAndFails, Fails, Ends, quietly, listed, after_read, written, called_of, called, for_turned, for_begun, given_back, ran, turned, broken, chosen, decided, comes_out, outcome_of, checked, left_by, begun, stepped}
 
 abbrev cond_nodes : Cond Label → ℕ
 cond_nodes (Truth e) = 2

@@ -10,9 +10,9 @@ use Rattle.clight_meaning.specs.declared.turn.Turn.TheVariants as turn
 use Rattle.clight_meaning.specs.declared.running.Running.{Running}
 use Rattle.clight_meaning.specs.declared.evaluator.Evaluator.{Evaluator}
 use Rattle.clight_meaning.specs.Meaning.{Rest}
-use Rattle.clight_meaning.specs.Evaluation.{rest_of}
-use Rattle.clight_meaning.specs.Holding.{works_held}
-use Rattle.clight_meaning.specs.Views.{state_held}
+use Rattle.clight_meaning.specs.Code.Evaluation.{rest_of}
+use Rattle.clight_meaning.specs.Code.Holding.{works_held}
+use Rattle.clight_meaning.specs.Code.Views.{state_held}
 
 -- the rest of a run, for each budget of labels
 abbrev pub rest_held : Running → Rest

@@ -4,11 +4,11 @@ ghost use Rattle.clight_syntax.specs.TypedTrees as t;
 ghost use Rattle.clight_syntax.specs.Code.TypedViews.{function_of, item_of, program_of};
 ghost use Rattle.clight_values.specs.Memory as m;
 ghost use Rattle.clight_meaning.specs.Meaning as e;
-ghost use Rattle.clight_meaning.specs.Evaluation as n;
-ghost use Rattle.clight_meaning.specs.Holding.{Announces, work_held, works_held};
+ghost use Rattle.clight_meaning.specs.Code.Evaluation as n;
+ghost use Rattle.clight_meaning.specs.Code.Holding.{Announces, work_held, works_held};
 ghost use Rattle.clight_meaning.specs.Turns.{rest_held};
-ghost use Rattle.clight_values.specs.Views.{memory_held};
-ghost use Rattle.clight_meaning.specs.Views.{state_held};
+ghost use Rattle.clight_values.specs.Code.Views.{memory_held};
+ghost use Rattle.clight_meaning.specs.Code.Views.{state_held};
 
 use crate::running::{Running, Work};
 use crate::state::{Frame, State};

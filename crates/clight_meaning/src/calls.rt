@@ -6,9 +6,9 @@ ghost use Rattle.clight_syntax.specs.TypedTrees.{type_at};
 ghost use Rattle.clight_values.specs.Memory as m;
 ghost use Rattle.clight_meaning.specs.Expressions as e;
 ghost use Rattle.clight_meaning.specs.Meaning as n;
-ghost use Rattle.clight_meaning.specs.Missing.{MayMiss, AddsArgument};
-ghost use Rattle.clight_values.specs.Views.{Makes, memory_held, structs_held, variables_held};
-ghost use Rattle.clight_meaning.specs.Views.{frame_held, state_held};
+ghost use Rattle.clight_meaning.specs.Code.Missing.{MayMiss, AddsArgument};
+ghost use Rattle.clight_values.specs.Code.Views.{Makes, memory_held, structs_held, variables_held};
+ghost use Rattle.clight_meaning.specs.Code.Views.{frame_held, state_held};
 
 use crate::state::{Frame, State, type_at};
 use crate::statements::{converted_to, variable_type};

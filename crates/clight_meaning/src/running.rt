@@ -7,12 +7,12 @@ ghost use Rattle.clight_syntax.specs.TypedTrees.{type_at};
 ghost use Rattle.clight_syntax.specs.Code.TypedViews.{assignment_of, call_of, cond_of, expr_of, function_of, program_of, stmt_of};
 ghost use Rattle.clight_meaning.specs.Expressions as x;
 ghost use Rattle.clight_meaning.specs.Meaning as e;
-ghost use Rattle.clight_meaning.specs.Evaluation as n;
+ghost use Rattle.clight_meaning.specs.Code.Evaluation as n;
 ghost use Rattle.clight_values.specs.Memory.{State as HeldState};
-ghost use Rattle.clight_meaning.specs.Holding.{condition_held, Does, Enters, Pops, Pushes, work_held, works_held, way_held};
+ghost use Rattle.clight_meaning.specs.Code.Holding.{condition_held, Does, Enters, Pops, Pushes, work_held, works_held, way_held};
 ghost use Rattle.clight_meaning.specs.Turns.{Tells, rest_held};
-ghost use Rattle.clight_values.specs.Views.{Makes};
-ghost use Rattle.clight_meaning.specs.Views.{frame_held, state_held};
+ghost use Rattle.clight_values.specs.Code.Views.{Makes};
+ghost use Rattle.clight_meaning.specs.Code.Views.{frame_held, state_held};
 ghost use Rattle.cerco_base.specs.declared.events.FaultKind.{FaultKind};
 
 use crate::calls::Missing;

@@ -7,8 +7,8 @@ ghost use Rattle.clight_syntax.specs.TypedTrees.{type_at};
 ghost use Rattle.clight_values.specs.Memory as m;
 ghost use Rattle.clight_values.specs.Operators as o;
 ghost use Rattle.clight_meaning.specs.Expressions as e;
-ghost use Rattle.clight_values.specs.Views.{Becomes, variables_held, memory_held, structs_held};
-ghost use Rattle.clight_meaning.specs.Views.{frame_held, position_held, positions_held, state_held};
+ghost use Rattle.clight_values.specs.Code.Views.{Becomes, variables_held, memory_held, structs_held};
+ghost use Rattle.clight_meaning.specs.Code.Views.{frame_held, position_held, positions_held, state_held};
 
 use c_types::{IntegerType, StructType, Ty};
 use cerco_base::{FaultKind, Label};

@@ -5,8 +5,8 @@ ghost use Rattle.c_types.specs.Types.{type_of};
 ghost use Rattle.clight_syntax.specs.Code.TypedViews.{assignment_of, expr_of, program_of};
 ghost use Rattle.clight_values.specs.Memory as m;
 ghost use Rattle.clight_meaning.specs.Meaning as n;
-ghost use Rattle.clight_values.specs.Views.{Makes, type_held, variables_held};
-ghost use Rattle.clight_meaning.specs.Views.{assignments_held, positions_held, state_held};
+ghost use Rattle.clight_values.specs.Code.Views.{Makes, type_held, variables_held};
+ghost use Rattle.clight_meaning.specs.Code.Views.{assignments_held, positions_held, state_held};
 
 use crate::state::{Position, State, type_at};
 use c_types::Ty;

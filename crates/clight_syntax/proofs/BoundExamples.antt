@@ -117,20 +117,21 @@ many_writes = refl
 -- `unsigned int f(unsigned int a){unsigned int b;unsigned char i;b=a;i=0;while(i<17){b=b+24200u^33046u;if(b&1)b=b^46195u;i=i+1;}return b;}`
 abbrev mixing : Function ℕ
 mixing = function word 0 1 2 (
-  Return nowhere (Some b) nowhere
-  ∷ While (truth (binary word i o.Less (number word 17))) 0 (block (
-      assign i (binary word i o.Add (number word 1))
-      ∷ If (truth (binary word b o.BitAnd (number word 1))) 0 (assign b (binary word b o.BitXor (number word 46195))) 0
-      ∷ assign b (binary word (binary word b o.Add (number word 24200)) o.BitXor (number word 33046))
-      ∷ [])) 0
-  ∷ assign i (number word 0)
-  ∷ assign b (variable word 0)
-  ∷ [])
- where
-  b : Expr
-  b = variable word 1
-  i : Expr
-  i = variable byte 2
+    Return nowhere (Some b) nowhere
+    ∷ While (truth (binary word i o.Less (number word 17))) 0 (block (
+    assign i (binary word i o.Add (number word 1))
+    ∷ If (truth (binary word b o.BitAnd (number word 1))) 0 (assign b (binary word b o.BitXor (number word 46195))) 0
+    ∷ assign b (binary word (binary word b o.Add (number word 24200)) o.BitXor (number word 33046))
+    ∷ [])) 0
+    ∷ assign i (number word 0)
+    ∷ assign b (variable word 0)
+    ∷ [])
+  where
+    b : Expr
+    b = variable word 1
+
+    i : Expr
+    i = variable byte 2
 
 abbrev x : Expr
 x = variable word 3
@@ -182,10 +183,10 @@ q = variable (Pointer word) 3
 
 abbrev taking : Function ℕ
 taking = function Void 2 0 2 (
-  If (record { keyword = nowhere; left = nowhere; condition = Both (Truth (binary word a o.ShiftLeft (number word 3))) nowhere 0 0 (Truth (Prefix word p.Dereference nowhere q)); right = nowhere }) 0 (write (Cast byte nowhere (w.UnsignedChar nowhere nowhere) nowhere a)) 0
-  ∷ assign (Prefix word p.Dereference nowhere q) (Index word (Select (Array word 4) t Dot nowhere nameless 1) nowhere g nowhere)
-  ∷ assign q (Prefix (Pointer word) p.AddressOf nowhere a)
-  ∷ [])
+    If (record { keyword = nowhere; left = nowhere; condition = Both (Truth (binary word a o.ShiftLeft (number word 3))) nowhere 0 0 (Truth (Prefix word p.Dereference nowhere q)); right = nowhere }) 0 (write (Cast byte nowhere (w.UnsignedChar nowhere nowhere) nowhere a)) 0
+    ∷ assign (Prefix word p.Dereference nowhere q) (Index word (Select (Array word 4) t Dot nowhere nameless 1) nowhere g nowhere)
+    ∷ assign q (Prefix (Pointer word) p.AddressOf nowhere a)
+    ∷ [])
 
 abbrev pointing : TypedProgram ℕ
 pointing = program (GlobalItem (record { declaration = declaration; initialiser = Single nowhere (record { minus = None; number = record { value = 1; radix = Decimal; unsigned = false }; span = nowhere }); semicolon = nowhere }) 0 ∷ []) (record_type ∷ []) (global (Struct 0) ∷ global byte ∷ in_block word ∷ held (Pointer word) ∷ []) (taking ∷ [])

@@ -7,7 +7,7 @@ use Rattle.c_types.specs.Conversions.{unsigned_char}
 use Rattle.clight_types.specs.Expressions.{are_pointer_and_steps}
 use Rattle.c_types.specs.Kinds.{is_integer, is_pointer, target_of}
 use Rattle.clight_types.specs.Operands.{Operand, is_number, is_power, steps_over}
-use Rattle.clight_types.specs.Held.{size_cap}
+use Rattle.clight_types.specs.Code.Held.{size_cap}
 
 no_power : (n : ℕ) → 65536 ≤ n → is_power n ≡ false
 no_power n h = grind (arith, ne_eqb)

@@ -6,8 +6,5 @@ pub mod Declarations
 pub mod FoundStructs
 pub mod Expressions
 pub mod TypedExpressions
-pub mod Held
-pub mod HeldNames
-pub mod HeldStructs
 pub mod Outcomes
-pub mod HeldJudged
+pub mod Code

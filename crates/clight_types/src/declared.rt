@@ -4,8 +4,8 @@ ghost use Rattle.clight_source.specs.Depth.{declared_start as declared_start_lem
 ghost use Rattle.c_types.specs.Types.{type_of, size_of};
 ghost use Rattle.clight_source.specs.Code.Views.{declared_of, declaration_of};
 ghost use Rattle.clight_types.specs.Declarations.{pointers_to as pointers_to_lem, arrays_of as arrays_of_lem, declared_type as declared_type_lem, declaration_type as declaration_type_lem, is_size};
-ghost use Rattle.clight_types.specs.Held.{size_cap};
-ghost use Rattle.clight_types.specs.HeldStructs.{structs_of};
+ghost use Rattle.clight_types.specs.Code.Held.{size_cap};
+ghost use Rattle.clight_types.specs.Code.HeldStructs.{structs_of};
 
 use crate::members::named_type;
 use crate::structs::Structs;

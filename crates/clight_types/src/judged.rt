@@ -7,7 +7,7 @@ ghost use Rattle.clight_source.specs.Code.Views.{expr_of as source_of};
 ghost use Rattle.clight_syntax.specs.Code.TypedViews.{expr_of, cond_of};
 ghost use Rattle.clight_types.specs.TypedExpressions.{judged_number, value_in as value_in_lem, condition_in as condition_in_lem, place_in as place_in_lem, in_parentheses as in_parentheses_lem, expr_place, bare_place as bare_place_lem, words_start as words_start_lem};
 ghost use Rattle.clight_types.specs.Outcomes.{Gives};
-ghost use Rattle.clight_types.specs.HeldJudged.{judged_of};
+ghost use Rattle.clight_types.specs.Code.HeldJudged.{judged_of};
 
 use crate::operands::{carried, has_value, is_scalar_value};
 use c_types::Size;

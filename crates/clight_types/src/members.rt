@@ -5,10 +5,10 @@ ghost use Rattle.c_types.specs.Types.{type_of, member_of as member_type_of};
 ghost use Rattle.clight_syntax.specs.Code.TypedViews.{expr_of};
 ghost use Rattle.clight_types.specs.Scopes.{member_of as member_of_lem};
 ghost use Rattle.clight_types.specs.Declarations.{named_type as named_type_lem};
-ghost use Rattle.clight_types.specs.HeldJudged.{judged_of};
+ghost use Rattle.clight_types.specs.Code.HeldJudged.{judged_of};
 ghost use Rattle.clight_types.specs.Outcomes.{Gives};
 ghost use Rattle.clight_types.specs.TypedExpressions.{selected_type, select_from};
-ghost use Rattle.clight_types.specs.HeldStructs.{structs_of};
+ghost use Rattle.clight_types.specs.Code.HeldStructs.{structs_of};
 
 use crate::judged::{Judged, refused};
 use crate::operands::{carried, target};

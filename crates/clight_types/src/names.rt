@@ -3,7 +3,7 @@ ghost use Rattle.std.specs.Prelude.{◌≡◌, IfOk, map, slice_get};
 ghost use Rattle.std.specs.Option.{option_map};
 ghost use Rattle.c_types.specs.Types.{member_of};
 ghost use Rattle.clight_types.specs.FoundStructs.{names_of};
-ghost use Rattle.clight_types.specs.HeldNames.{names_in};
+ghost use Rattle.clight_types.specs.Code.HeldNames.{names_in};
 ghost use Rattle.clight_types.specs.Places.{place_among};
 
 use crate::places::Places;

@@ -8,11 +8,11 @@ ghost use Rattle.clight_syntax.specs.Code.TypedViews.{expr_of, cond_of};
 ghost use Rattle.cerco_base.specs.declared.reasons.TypeKind.TheVariants.{Operand as OperandKind};
 ghost use Rattle.c_types.specs.Kinds.{is_array};
 ghost use Rattle.clight_types.specs.Operands.{operand};
-ghost use Rattle.clight_types.specs.Held.{row_type};
-ghost use Rattle.clight_types.specs.HeldJudged.{judged_of};
+ghost use Rattle.clight_types.specs.Code.Held.{row_type};
+ghost use Rattle.clight_types.specs.Code.HeldJudged.{judged_of};
 ghost use Rattle.clight_types.specs.Outcomes.{Gives};
 ghost use Rattle.clight_types.specs.TypedExpressions.{Typed, Logical, or_fault, of_values, of_conditions, binary_kind, is_logical_operator, promoted_type, dereferenced_type, address_of, cast_form, cast_judged, element_form, element_judged};
-ghost use Rattle.clight_types.specs.HeldStructs.{structs_of};
+ghost use Rattle.clight_types.specs.Code.HeldStructs.{structs_of};
 
 use crate::judged::{Judged, refused, value_in};
 use crate::operands::{

@@ -9,7 +9,7 @@ ghost use Rattle.clight_types.specs.Operands.{is_value, is_zero, operand};
 ghost use Rattle.clight_types.specs.Operands.{number_of as number_of_lem, is_place as is_place_lem, steps_over as steps_over_lem};
 ghost use Rattle.clight_types.specs.Expressions.{are_pointer_and_steps};
 ghost use Rattle.c_types.specs.Conversions.{unsigned_char};
-ghost use Rattle.clight_types.specs.HeldStructs.{structs_of};
+ghost use Rattle.clight_types.specs.Code.HeldStructs.{structs_of};
 
 use crate::declared::capped_size;
 use crate::structs::Structs;

@@ -2,8 +2,8 @@
 ghost use Rattle.std.specs.Prelude.{◌≡◌, map, min};
 ghost use Rattle.c_types.specs.Types.{type_of};
 ghost use Rattle.clight_types.specs.Declarations.{bytes_of, types_eq};
-ghost use Rattle.clight_types.specs.Held.{size_cap};
-ghost use Rattle.clight_types.specs.HeldStructs.{structs_of};
+ghost use Rattle.clight_types.specs.Code.Held.{size_cap};
+ghost use Rattle.clight_types.specs.Code.HeldStructs.{structs_of};
 
 use crate::declared::{capped_size, capped_sum};
 use crate::structs::Structs;

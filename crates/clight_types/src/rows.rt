@@ -7,8 +7,8 @@ ghost use Rattle.clight_syntax.specs.Code.TypedViews.{expr_of};
 ghost use Rattle.clight_types.specs.Operands.{operand};
 ghost use Rattle.clight_types.specs.Expressions.{is_shift_count, are_integers, are_unsigned_chars, are_like_pointers, are_pointer_and_null};
 ghost use Rattle.clight_types.specs.TypedExpressions.{sum_type, difference_type, bits_type, product_type, shift_type, order_type, equality_type, binary_type};
-ghost use Rattle.clight_types.specs.Held.{row_type};
-ghost use Rattle.clight_types.specs.HeldStructs.{structs_of};
+ghost use Rattle.clight_types.specs.Code.Held.{row_type};
+ghost use Rattle.clight_types.specs.Code.HeldStructs.{structs_of};
 
 use crate::operands::{
     is_integer_value, is_pointer_and_steps, is_unsigned_char, is_zero_number, number_of, target,

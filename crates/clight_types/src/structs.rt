@@ -4,7 +4,7 @@ ghost use Rattle.std.specs.Option.{option_map};
 ghost use Rattle.c_types.specs.Types.{Struct, struct_type_of, member_of};
 ghost use Rattle.clight_types.specs.Declarations.{struct_number};
 ghost use Rattle.clight_types.specs.FoundStructs.{tags_of, all_names_of};
-ghost use Rattle.clight_types.specs.HeldNames.{names_in};
+ghost use Rattle.clight_types.specs.Code.HeldNames.{names_in};
 ghost use Rattle.clight_types.specs.Scopes.{member_of as member_of_lem};
 
 use crate::names::{MemberNames, member_at, names_at};
@@ -34,7 +34,7 @@ fn struct_at(types: &[StructType], number: usize) -> Option<&StructType>
 }
 
 impl Structs {
-    ghost use Rattle.clight_types.specs.HeldStructs.{structs_of};
+    ghost use Rattle.clight_types.specs.Code.HeldStructs.{structs_of};
 
     /// No structs.
     pub fn new(alloc: Global) -> Structs

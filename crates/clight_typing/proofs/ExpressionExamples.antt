@@ -11,7 +11,8 @@ use Rattle.clight_source.specs.Trees.{Expr, Number}
 use Rattle.clight_syntax.specs.TypedTrees.{type_at, Cond}
 use Rattle.c_types.specs.declared.integers.Size.TheVariants.{One, Two, Four}
 use Rattle.c_types.specs.Types.{CType, Void, Integer, Pointer, Array, Struct, Member, StructType}
-use Rattle.c_types.specs.Conversions.{common, unsigned_char, int, unsigned_int, long, unsigned_long, literal_type}
+use Rattle.c_types.specs.Conversions.{common, unsigned_char, int, unsigned_int, long, unsigned_long}
+use Rattle.clight_syntax.specs.LiteralTypes.{literal_type}
 use Rattle.c_types.specs.Kinds.{value_type}
 use Rattle.clight_types.specs.Scopes.{Scope, Named, Meaning, Meanings, Object, Code, declare, nothing, visible}
 use Rattle.clight_types.specs.TypedExpressions.{Checked, typed_value, typed_condition, ◌>>=◌}

@@ -6,8 +6,8 @@ use Rattle.c_types.specs.Types.{CType}
 use Rattle.clight_syntax.specs.TypedTrees.{Local, Stmts, Function, Variable'}
 use Rattle.clight_types.specs.Declarations.{declared_type, parameters_of, signature_of}
 use Rattle.clight_typing.specs.Functions.{File, agrees, first_local, names_at_locals, has_few_parameters, variables_from, variables_of, parameter_own}
-use Rattle.clight_typing.specs.HeldFile.{source_own}
-use Rattle.clight_typing.specs.HeldFunction.{U, Parts, Function', with_end, function_and_end, typed_parts, typed_and_end, taken_within}
+use Rattle.clight_typing.specs.Code.HeldFile.{source_own}
+use Rattle.clight_typing.specs.Code.HeldFunction.{U, Parts, Function', with_end, function_and_end, typed_parts, typed_and_end, taken_within}
 use Rattle.clight_typing.specs.Programs.{after_function, after_prototype}
 use Rattle.clight_typing.specs.Statements.{is_among}
 use Rattle.clight_types.specs.TypedExpressions.{Checked, ◌>>=◌}

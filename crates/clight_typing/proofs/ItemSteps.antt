@@ -3,7 +3,7 @@ use Rattle.std.proofs.Common.{◌≡◌, ◌∙◌, List, [], ◌∷◌, ◌++�
 use Rattle.clight_source.specs.Trees as s
 use Rattle.clight_syntax.specs.TypedTrees.{Item, StructItem, GlobalItem, PrototypeItem, FunctionItem, Function}
 use Rattle.clight_typing.specs.Functions.{File}
-use Rattle.clight_typing.specs.HeldFunction.{U, Step, step, typed_item, items_with, with_end}
+use Rattle.clight_typing.specs.Code.HeldFunction.{U, Step, step, typed_item, items_with, with_end}
 use Rattle.clight_typing.specs.Programs.{after_struct, after_global, after_prototype, after_function}
 use Rattle.clight_types.specs.TypedExpressions.{Checked, TypeFault, ◌>>=◌}
 use Rattle.clight_typing.proofs.FunctionParts.{function_parts}

@@ -4,7 +4,7 @@ use Rattle.clight_source.specs.Trees.{Declared}
 use Rattle.c_types.specs.Types.{StructType}
 use Rattle.clight_types.specs.Declarations.{declared_type}
 use Rattle.clight_typing.specs.Functions.{Own, object, parameter_own, with_parameters}
-use Rattle.clight_typing.specs.HeldFile.{with_owns}
+use Rattle.clight_typing.specs.Code.HeldFile.{with_owns}
 use Rattle.clight_types.specs.Scopes.{Meanings, declare}
 
 pub own_types : (structs : List StructType) (xs : List Declared) → map (λ (own : Own). own.type) (map (parameter_own structs) xs) ≡ map (declared_type structs) xs

@@ -18,7 +18,8 @@ use Rattle.c_types.specs.declared.integers.Size.TheVariants.{One, Two, Four}
 use Rattle.c_types.specs.declared.integers.Size.{Size}
 use Rattle.c_types.specs.Types.{CType, Void, Integer, Pointer, Array, Struct, Member, StructType}
 use Rattle.clight_syntax.specs.TypedTrees.{Expr, Variable, Number, Parenthesis, Binary, Prefix, Cast, Index, Select, type_at, Cond, Truth, InParentheses, Not, Both, Either}
-use Rattle.c_types.specs.Conversions.{promoted, literal_type}
+use Rattle.c_types.specs.Conversions.{promoted}
+use Rattle.clight_syntax.specs.LiteralTypes.{literal_type}
 use Rattle.c_types.specs.Kinds.{is_integer, is_pointer, is_scalar, is_array, is_four_bytes, target_of}
 use Rattle.clight_types.specs.Operands.{is_value, is_place, operand, steps_along}
 use Rattle.clight_types.specs.Scopes.{Scope, Meaning, Object, Code, meaning_of, member_of, member_in}

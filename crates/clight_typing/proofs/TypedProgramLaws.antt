@@ -14,7 +14,7 @@ use Rattle.clight_types.specs.Declarations.{declared_type, declaration_type, par
 use Rattle.clight_typing.specs.Statements.{Body, is_among, AreTyped, addressed, stmts_addressed}
 use Rattle.clight_typing.specs.Sources.{expr_source, stmts_source, initialiser_source, local_source, function_source, item_source, program_source}
 use Rattle.clight_typing.specs.Functions.{File, is_struct, is_global, is_declaration, IsFirstValue, AreLocals, with_local, with_locals, locals_addressed, first_value_addressed, function_addressed, names_at_locals, first_local, body_of, IsFunction, is_header, agrees, has_few_parameters, variables_from, variables_of, own_variable, Own, has_block, counted, function_number, parameter_own, local_own}
-use Rattle.clight_typing.specs.HeldFile.{source_own}
+use Rattle.clight_typing.specs.Code.HeldFile.{source_own}
 use Rattle.clight_typing.specs.Programs.{after_struct, after_global, after_prototype, after_function, AreItems, over, a_struct, a_global, a_prototype, a_function, definitions, no_file, without_address, without_layout, IsWellTyped}
 use Rattle.clight_names.specs.Spellings.{main_name}
 use Rattle.clight_types.specs.TypedExpressions.{Checked, fault, ◌>>=◌, typed_value}

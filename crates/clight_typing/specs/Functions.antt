@@ -11,7 +11,7 @@ use Rattle.clight_source.specs.Trees.{Declared, Declaration, Header, Initialiser
 use Rattle.clight_source.specs.Trees as tree
 use Rattle.c_types.specs.Types.{CType, Void, Integer, Pointer, Array, Struct, StructType, size_of, type_eq}
 use Rattle.clight_syntax.specs.TypedTrees.{LocalInitialiser, NoValue, Value, Local, Function, Variable'}
-use Rattle.c_types.specs.Conversions.{literal_type}
+use Rattle.clight_syntax.specs.LiteralTypes.{literal_type}
 use Rattle.c_types.specs.Kinds.{is_integer, is_scalar, is_four_bytes}
 use Rattle.clight_types.specs.Operands.{is_assignable, operand}
 use Rattle.clight_types.specs.Scopes.{Scope, Signature, Meaning, Object, Code, Named, Meanings, declare, visible}

@@ -4,9 +4,5 @@ pub mod Sources
 pub mod Programs
 pub mod TypedStatements
 pub mod TypedPrograms
-pub mod HeldScopes
-pub mod HeldBody
-pub mod HeldOwn
-pub mod HeldFile
-pub mod HeldFunction
 pub mod Laws
+pub mod Code

@@ -2,7 +2,7 @@
 ghost use Rattle.std.specs.Prelude.{◌≡◌};
 ghost use Rattle.clight_source.specs.Code.Views.{stmt_of as source_of, stmts_of as sources_of};
 ghost use Rattle.clight_syntax.specs.Code.TypedViews.{stmt_of, stmts_of};
-ghost use Rattle.clight_typing.specs.HeldBody.{body_for};
+ghost use Rattle.clight_typing.specs.Code.HeldBody.{body_for};
 ghost use Rattle.clight_types.specs.Outcomes.{Gives};
 ghost use Rattle.clight_typing.specs.Statements.{in_loop as in_loop_lem};
 ghost use Rattle.clight_typing.specs.TypedStatements.{typed_stmt as typed_stmt_lem, typed_stmts as typed_stmts_lem};

@@ -4,7 +4,7 @@ ghost use Rattle.std.specs.Prelude.{◌≡◌};
 ghost use Rattle.std.specs.Option.{option_map};
 ghost use Rattle.clight_source.specs.Code.Views.{expr_of as source_of};
 ghost use Rattle.clight_syntax.specs.Code.TypedViews.{expr_of, stmt_of};
-ghost use Rattle.clight_typing.specs.HeldBody.{body_for};
+ghost use Rattle.clight_typing.specs.Code.HeldBody.{body_for};
 ghost use Rattle.clight_types.specs.Outcomes.{Gives};
 ghost use Rattle.clight_typing.specs.Statements.{reads_into as reads_into_lem, is_own as is_own_lem};
 ghost use Rattle.clight_typing.specs.TypedStatements.{typed_reading as typed_reading_lem, read_port as read_port_lem, typed_return as typed_return_lem, jump as jump_lem};

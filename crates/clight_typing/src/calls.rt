@@ -3,8 +3,8 @@ ghost use Rattle.std.specs.Prelude.{◌≡◌, map};
 ghost use Rattle.std.specs.Option.{option_map};
 ghost use Rattle.clight_source.specs.Code.Views.{earlier_argument_of as earlier_source_of, arguments_of as arguments_source_of, call_of as call_source_of};
 ghost use Rattle.clight_syntax.specs.Code.TypedViews.{earlier_argument_of, arguments_of, call_of};
-ghost use Rattle.clight_typing.specs.HeldBody.{body_for};
-ghost use Rattle.clight_typing.specs.HeldScopes.{scope_of, signature_for};
+ghost use Rattle.clight_typing.specs.Code.HeldBody.{body_for};
+ghost use Rattle.clight_typing.specs.Code.HeldScopes.{scope_of, signature_for};
 ghost use Rattle.clight_types.specs.Outcomes.{Gives};
 ghost use Rattle.clight_typing.specs.TypedStatements.{optional, typed_earlier as typed_earlier_lem, typed_arguments as typed_arguments_lem, typed_target as typed_target_lem, call_place as call_place_lem, call_of as call_of_lem, typed_call as typed_call_lem};
 

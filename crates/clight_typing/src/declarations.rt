@@ -3,8 +3,8 @@ ghost use Rattle.std.specs.Prelude.{◌≡◌, IfOk, map, min};
 ghost use Rattle.c_types.specs.Types.{type_of, struct_type_of, member_of as member_type_of};
 ghost use Rattle.clight_source.specs.Code.Views.{declaration_of, member_of, struct_of};
 ghost use Rattle.clight_types.specs.Declarations.{declaration_type as declaration_type_lem, size_of_members, members_from as members_from_lem, struct_type as struct_type_lem};
-ghost use Rattle.clight_types.specs.Held.{size_cap};
-ghost use Rattle.clight_typing.specs.HeldScopes.{scope_of};
+ghost use Rattle.clight_types.specs.Code.Held.{size_cap};
+ghost use Rattle.clight_typing.specs.Code.HeldScopes.{scope_of};
 ghost use Rattle.clight_types.specs.Outcomes.{Gives};
 ghost use Rattle.clight_typing.specs.TypedPrograms.{checked_declaration as checked_declaration_lem, checked_members as checked_members_lem, checked_struct as checked_struct_lem};
 

@@ -5,22 +5,22 @@ ghost use Rattle.c_types.specs.Types.{type_of};
 ghost use Rattle.clight_source.specs.Code.Views.{declaration_of, initialiser_of, global_of};
 ghost use Rattle.clight_types.specs.Declarations.{declaration_type as declaration_type_lem};
 ghost use Rattle.clight_typing.specs.Functions.{is_number as is_number_lem, takes_list as takes_list_lem};
-ghost use Rattle.clight_typing.specs.HeldScopes.{scope_of};
+ghost use Rattle.clight_typing.specs.Code.HeldScopes.{scope_of};
 ghost use Rattle.clight_types.specs.Outcomes.{Gives};
 ghost use Rattle.clight_typing.specs.TypedPrograms.{checked_number as checked_number_lem, checked_numbers as checked_numbers_lem, checked_initialiser as checked_initialiser_lem, checked_global as checked_global_lem};
 
 use crate::scope::Scope;
-use c_types::{IntegerType, Size};
+use c_types::Size;
 use cerco_base::{Fault, TypeKind};
 use clight_source::tree::{EarlierNumber, Global, Initialiser, SignedNumber};
-use clight_syntax::{Span, Ty};
+use clight_syntax::{Span, Ty, literal_type};
 use clight_types::judged::refused;
 
 /// Whether a number has a type of one or two bytes.
 fn is_number(x: SignedNumber) -> bool
     ensures { result ≡ is_number_lem x }
 {
-    match IntegerType::of_literal(x.number).size {
+    match literal_type(x.number).size {
         Size::Four => false,
         _ => true,
     }

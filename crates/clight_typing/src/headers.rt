@@ -5,8 +5,8 @@ ghost use Rattle.c_types.specs.Types.{type_of};
 ghost use Rattle.clight_source.specs.Code.Views.{declared_of, parameters_of as parameters_source_of, header_of};
 ghost use Rattle.clight_types.specs.Declarations.{parameters_of, signature_of as signature_of_lem, declared_type as declared_type_lem};
 ghost use Rattle.clight_typing.specs.Functions.{parameter_own, has_few_parameters as has_few_parameters_lem, signature_eq, agrees as agrees_lem, is_void as is_void_lem};
-ghost use Rattle.clight_typing.specs.HeldOwn.{listed, own_of};
-ghost use Rattle.clight_typing.specs.HeldScopes.{scope_of, signature_for, meaning_for};
+ghost use Rattle.clight_typing.specs.Code.HeldOwn.{listed, own_of};
+ghost use Rattle.clight_typing.specs.Code.HeldScopes.{scope_of, signature_for, meaning_for};
 ghost use Rattle.clight_types.specs.Outcomes.{Gives};
 ghost use Rattle.clight_typing.specs.TypedPrograms.{result_words as result_words_lem, checked_result as checked_result_lem, checked_parameter as checked_parameter_lem, checked_parameters as checked_parameters_lem, checked_types as checked_types_lem, few_parameters as few_parameters_lem, checked_prototype as checked_prototype_lem};
 

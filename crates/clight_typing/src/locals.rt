@@ -5,9 +5,9 @@ ghost use Rattle.clight_syntax.specs.Code.TypedViews.{local_of, local_initialise
 ghost use Rattle.clight_source.specs.Code.Views.{local_of as local_source_of, local_initialiser_of as initialiser_source_of, parameters_of as parameters_source_of};
 ghost use Rattle.clight_types.specs.Declarations.{parameters_of};
 ghost use Rattle.clight_typing.specs.Functions.{object, with_parameters, parameter_own};
-ghost use Rattle.clight_typing.specs.HeldFile.{an_own, source_own, with_owns};
-ghost use Rattle.clight_typing.specs.HeldOwn.{own_of};
-ghost use Rattle.clight_typing.specs.HeldScopes.{scope_of, declared_in, file_names};
+ghost use Rattle.clight_typing.specs.Code.HeldFile.{an_own, source_own, with_owns};
+ghost use Rattle.clight_typing.specs.Code.HeldOwn.{own_of};
+ghost use Rattle.clight_typing.specs.Code.HeldScopes.{scope_of, declared_in, file_names};
 ghost use Rattle.clight_types.specs.Outcomes.{Gives};
 ghost use Rattle.clight_types.specs.Scopes.{visible};
 ghost use Rattle.clight_typing.specs.TypedPrograms.{typed_first_value as typed_first_value_lem, typed_local as typed_local_lem, typed_locals as typed_locals_lem, scope_at, behind_locals, first_value_taken, locals_taken};

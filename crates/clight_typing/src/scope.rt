@@ -2,8 +2,8 @@
 ghost use Rattle.std.specs.Prelude.{◌≡◌, ◌++◌, ◌∷◌, [], OnOk};
 ghost use Rattle.std.specs.Option.{option_map};
 ghost use Rattle.c_types.specs.Types.{struct_type_of};
-ghost use Rattle.clight_typing.specs.HeldScopes.{meaning_for, scope_of, file_names, named, declared_in};
-ghost use Rattle.clight_types.specs.HeldStructs.{structs_of};
+ghost use Rattle.clight_typing.specs.Code.HeldScopes.{meaning_for, scope_of, file_names, named, declared_in};
+ghost use Rattle.clight_types.specs.Code.HeldStructs.{structs_of};
 ghost use Rattle.clight_types.specs.Scopes.{nothing, visible, declare as declare_lem};
 
 use c_types::{StructType, Ty};

@@ -3,8 +3,8 @@ ghost use Rattle.std.specs.Prelude.{◌≡◌, map};
 ghost use Rattle.std.specs.Option.{option_map};
 ghost use Rattle.clight_source.specs.Code.Views.{expr_of as source_of, assignment_of as assignment_source_of, test_of as test_source_of};
 ghost use Rattle.clight_syntax.specs.Code.TypedViews.{expr_of, assignment_of, test_of, stmt_of};
-ghost use Rattle.clight_typing.specs.HeldScopes.{scope_of};
-ghost use Rattle.clight_typing.specs.HeldBody.{body_for};
+ghost use Rattle.clight_typing.specs.Code.HeldScopes.{scope_of};
+ghost use Rattle.clight_typing.specs.Code.HeldBody.{body_for};
 ghost use Rattle.clight_types.specs.Outcomes.{Gives};
 ghost use Rattle.clight_typing.specs.TypedStatements.{typed_assignment as typed_assignment_lem, typed_test as typed_test_lem, typed_reading, typed_writing, typed_return, assigned as assigned_lem, read_port as read_port_lem};
 

@@ -2,7 +2,7 @@
 ghost use Rattle.std.specs.Prelude.{◌≡◌, ◌++◌, OnOk, IfOk, map, nat_eq};
 ghost use Rattle.std.specs.Option.{option_map};
 ghost use Rattle.clight_source.specs.Code.Views.{expr_of, assignment_of, earlier_argument_of, arguments_of, for_head_of, stmt_of, stmts_of};
-ghost use Rattle.clight_typing.specs.HeldScopes.{scope_of};
+ghost use Rattle.clight_typing.specs.Code.HeldScopes.{scope_of};
 ghost use Rattle.clight_typing.specs.Statements.{option_list, is_among};
 ghost use Rattle.clight_typing.specs.TypedStatements.{variable_at as variable_at_lem, taken_in, optional_taken, assignment_taken, earlier_taken, arguments_taken, for_taken, stmt_taken, stmts_taken};
 ghost use Rattle.indexmap.specs.IndexSet.{contains};

@@ -6,7 +6,7 @@ use Rattle.clight_values.specs.declared.value.Block.{Block}
 use Rattle.clight_values.specs.declared.memory.Cell.{Cell as HeldCell}
 use Rattle.clight_values.specs.Memory.{Cell, Kinds, unset, with_block}
 use Rattle.clight_values.specs.Globals.{filled}
-use Rattle.clight_values.specs.Views.{cell_held, cells_held, kinds_held}
+use Rattle.clight_values.specs.Code.Views.{cell_held, cells_held, kinds_held}
 
 abbrev kinds_of_cells : List Cell → Kinds
 kinds_of_cells cells = map (λ (c : Cell). c.kind) cells

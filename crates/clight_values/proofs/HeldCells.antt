@@ -11,7 +11,7 @@ use Rattle.clight_values.specs.declared.value.Place.{Place}
 use Rattle.clight_values.specs.declared.value.Block.{Block}
 use Rattle.clight_values.specs.declared.memory.Cell.{Cell}
 use Rattle.clight_values.specs.Memory.{Memory, left, accessed, stored, stored_at, put}
-use Rattle.clight_values.specs.Views.{cell_held, cells_held}
+use Rattle.clight_values.specs.Code.Views.{cell_held, cells_held}
 
 -- the cell that is held at a number
 pub cell_at : (cells : List Cell) (i : ℕ) (c : Cell) → i < length cells → c ≡ get_or cells i c → slice_get (cells_held cells) i ≡ Some (cell_held c)

@@ -10,7 +10,7 @@ use Rattle.c_types.specs.declared.structs.MemberType.{MemberType}
 use Rattle.c_types.specs.declared.types.Ty.{Ty}
 use Rattle.c_types.specs.declared.types.Ty.TheVariants as t
 use Rattle.clight_values.specs.Memory.{Cell, Kinds, repeated, kinds_by, kinds_of_members, kinds_of_struct, nested_kinds, unset}
-use Rattle.clight_values.specs.Views.{structs_held}
+use Rattle.clight_values.specs.Code.Views.{structs_held}
 use Rattle.clight_values.proofs.Walks.{opened}
 
 -- how often a walk goes further down in a type, where it does so this often in a struct

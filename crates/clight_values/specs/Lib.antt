@@ -2,4 +2,4 @@ pub mod Values
 pub mod Memory
 pub mod Operators
 pub mod Globals
-pub mod Views
+pub mod Code

@@ -4,7 +4,7 @@ ghost use Rattle.c_types.specs.Types.{type_of};
 ghost use Rattle.clight_source.specs.Code.Views.{initialiser_of};
 ghost use Rattle.clight_values.specs.Memory as m;
 ghost use Rattle.clight_values.specs.Globals as g;
-ghost use Rattle.clight_values.specs.Views.{cells_held, kinds_held, memory_held, structs_held};
+ghost use Rattle.clight_values.specs.Code.Views.{cells_held, kinds_held, memory_held, structs_held};
 
 use crate::integer::{converted, difference};
 use crate::lookup::item_at;
@@ -22,11 +22,7 @@ fn signed_bits(number: SignedNumber) -> u32
 {
     match number.minus {
         None => number.number.value,
-        Some(_) => difference(
-            literal_type(number.number),
-            0,
-            number.number.value,
-        ),
+        Some(_) => difference(literal_type(number.number), 0, number.number.value),
     }
 }
 

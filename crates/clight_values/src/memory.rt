@@ -4,7 +4,7 @@ ghost use Rattle.c_types.specs.Types.{type_of, member_of};
 ghost use Rattle.clight_values.specs.Memory as m;
 ghost use Rattle.c_types.specs.Kinds.{is_scalar};
 ghost use Rattle.clight_values.specs.Memory.{block_in, own_blocks};
-ghost use Rattle.clight_values.specs.Views.{cell_held, cells_held, memory_held, structs_held, variables_held, kind_held, Becomes};
+ghost use Rattle.clight_values.specs.Code.Views.{cell_held, cells_held, memory_held, structs_held, variables_held, kind_held, Becomes};
 
 use crate::integer::{is_negative, magnitude};
 use crate::lookup::item_at;

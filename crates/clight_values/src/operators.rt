@@ -3,7 +3,7 @@ ghost use Rattle.std.specs.Prelude.{◌≡◌, ℕ, ◌^◌, min};
 ghost use Rattle.c_types.specs.Types.{type_of, size_of};
 ghost use Rattle.c_types.specs.Kinds.{integer_type, target_of};
 ghost use Rattle.clight_values.specs.Operators as o;
-ghost use Rattle.clight_values.specs.Views.{memory_held, structs_held};
+ghost use Rattle.clight_values.specs.Code.Views.{memory_held, structs_held};
 
 use crate::integer::{combined, complement, converted, difference, truth};
 use crate::memory::Memory;

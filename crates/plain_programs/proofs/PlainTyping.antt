@@ -10,7 +10,8 @@ use Rattle.clight_source.specs.declared.symbol.Radix.TheVariants.{Decimal, Octal
 use Rattle.clight_source.specs.Trees as s
 use Rattle.c_types.specs.declared.integers.Size.TheVariants.{One, Two}
 use Rattle.c_types.specs.Types.{CType, Integer}
-use Rattle.c_types.specs.Conversions.{first_with_value, int, unsigned_int, long, unsigned_long, unsigned_char, candidates}
+use Rattle.c_types.specs.Conversions.{first_with_value, int, unsigned_int, long, unsigned_long, unsigned_char}
+use Rattle.clight_syntax.specs.LiteralTypes.{candidates}
 use Rattle.clight_syntax.specs.TypedTrees.{Expr, Number, Parenthesis, type_at, Stmt, WritePort, Stmts, NoStmts, Then, TypedProgram}
 use Rattle.c_types.specs.Kinds.{is_integer, is_four_bytes, value_type}
 use Rattle.clight_types.specs.Operands.{is_value, operand}

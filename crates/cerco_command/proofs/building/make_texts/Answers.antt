@@ -2,7 +2,7 @@ use Rattle.std.proofs.Common.{arith, [], ◌∷◌, refl, sym, ◌∙◌}
 use Rattle.cerco_base.specs.Outside.InMemory.{sound_sink_state}
 use Rattle.cerco_command.proofs.PortBounds.{code_fits}
 use Rattle.cerco_command.proofs.PlainTrees.{few, body_within}
-use Rattle.cerco_command.specs.PlainViews.{plain_of}
+use Rattle.cerco_command.specs.Code.PlainViews.{plain_of}
 use Rattle.cerco_command.proofs.Compiled.{collected, texts_made}
 use Rattle.cerco_command.proofs.building.make_texts.Goals as goal
 

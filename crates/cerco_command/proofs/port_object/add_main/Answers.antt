@@ -5,7 +5,7 @@ use Rattle.mcs51_isa.specs.declared.instr.Instr.TheVariants.{Ret}
 use Rattle.mcs51_isa.specs.declared.instr.ReturnKind.TheVariants.{FromCall}
 use Rattle.mcs51_isa.specs.Table.{encode_of}
 use Rattle.sim51.specs.Placed.{code_of_instrs}
-use Rattle.cerco_command.specs.PortObjects.{write}
+use Rattle.cerco_command.specs.Code.PortObjects.{write}
 use Rattle.cerco_command.proofs.PortCode.{one_more, one_more_write}
 use Rattle.cerco_command.proofs.port_object.add_main.Goals as goal
 

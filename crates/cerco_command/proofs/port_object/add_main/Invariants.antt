@@ -1,6 +1,6 @@
 use Rattle.std.proofs.Common.{◌≡◌, ◌++◌, ◌∷◌, take, map}
 use Rattle.sim51.specs.Placed.{code_of_instrs}
-use Rattle.cerco_command.specs.PortObjects.{write}
+use Rattle.cerco_command.specs.Code.PortObjects.{write}
 use Rattle.cerco_command.proofs.port_object.add_main.Given as goal
 
 abbrev pub invariant-loop-value : goal.invariant-loop-value

@@ -1,7 +1,7 @@
 use Rattle.std.proofs.Common.{◌≡◌, drop, map, []}
 use Rattle.clight_syntax.specs.Code.TypedViews.{item_of, program_of}
 use Rattle.clight_values.specs.Memory.{with_blocks}
-use Rattle.clight_values.specs.Views.{memory_held}
+use Rattle.clight_values.specs.Code.Views.{memory_held}
 use Rattle.clight_meaning.specs.Meaning.{global_blocks}
 use Rattle.clight_meaning.proofs.beginning.globals.Given as goal
 

@@ -1,6 +1,6 @@
 use Rattle.std.proofs.Common.{◌≡◌, ◌++◌, drop}
 use Rattle.clight_meaning.specs.Meaning.{initials}
-use Rattle.clight_values.specs.Views.{variables_held}
+use Rattle.clight_values.specs.Code.Views.{variables_held}
 use Rattle.clight_meaning.proofs.calls.initials.Given as goal
 
 abbrev pub invariant-loop-variable : goal.invariant-loop-variable

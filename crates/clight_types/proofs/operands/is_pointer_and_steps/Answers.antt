@@ -2,7 +2,7 @@ use Rattle.std.proofs.Common.{◌∙◌, ap, map}
 use Rattle.c_types.specs.Types.{type_of}
 use Rattle.clight_syntax.specs.Code.TypedViews.{expr_of}
 use Rattle.clight_types.specs.Operands.{operand, steps_over}
-use Rattle.clight_types.specs.HeldStructs.{structs_of}
+use Rattle.clight_types.specs.Code.HeldStructs.{structs_of}
 use Rattle.clight_types.proofs.Sizes.{steps_to}
 use Rattle.clight_types.proofs.operands.is_pointer_and_steps.Goals as goal
 

@@ -2,8 +2,8 @@ use Rattle.std.proofs.Common.{◌≡◌, ◌+◌, ◌≤◌, map, drop}
 use Rattle.std.specs.Prelude.{min}
 use Rattle.c_types.specs.Types.{type_of}
 use Rattle.clight_types.specs.Declarations.{bytes_of}
-use Rattle.clight_types.specs.Held.{size_cap}
-use Rattle.clight_types.specs.HeldStructs.{structs_of}
+use Rattle.clight_types.specs.Code.Held.{size_cap}
+use Rattle.clight_types.specs.Code.HeldStructs.{structs_of}
 use Rattle.clight_types.proofs.parameters.parameter_bytes.Given as goal
 
 abbrev pub invariant-loop-ty : goal.invariant-loop-ty

@@ -6,8 +6,8 @@ use Rattle.clight_syntax.specs.TypedTrees.{Variable'}
 use Rattle.clight_syntax.specs.Code.TypedViews.{variable_of}
 use Rattle.clight_typing.specs.Functions.{variables_from, own_variable, has_block, counted, home_of}
 use Rattle.c_types.specs.Kinds.{is_scalar}
-use Rattle.clight_typing.specs.HeldFile.{a_variable}
-use Rattle.clight_typing.specs.HeldOwn.{own_of}
+use Rattle.clight_typing.specs.Code.HeldFile.{a_variable}
+use Rattle.clight_typing.specs.Code.HeldOwn.{own_of}
 use Rattle.indexmap.specs.IndexSet.{contains}
 use Rattle.clight_typing.proofs.Walks.{from_here, added}
 use Rattle.clight_typing.proofs.files.add_variables.Goals as goal

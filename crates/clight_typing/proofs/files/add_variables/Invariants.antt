@@ -1,7 +1,7 @@
 use Rattle.std.proofs.Common.{◌≡◌, ◌++◌, length, map, drop, nat_eq}
 use Rattle.clight_syntax.specs.Code.TypedViews.{variable_of}
 use Rattle.clight_typing.specs.Functions.{variables_from}
-use Rattle.clight_typing.specs.HeldOwn.{own_of}
+use Rattle.clight_typing.specs.Code.HeldOwn.{own_of}
 use Rattle.indexmap.specs.IndexSet.{contains}
 use Rattle.clight_typing.proofs.files.add_variables.Given as goal
 

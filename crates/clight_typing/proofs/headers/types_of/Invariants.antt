@@ -1,6 +1,6 @@
 use Rattle.std.proofs.Common.{◌≡◌, map}
 use Rattle.c_types.specs.Types.{type_of}
-use Rattle.clight_typing.specs.HeldOwn.{own_of}
+use Rattle.clight_typing.specs.Code.HeldOwn.{own_of}
 use Rattle.clight_typing.proofs.headers.types_of.Given as goal
 
 abbrev pub invariant-loop-own : goal.invariant-loop-own

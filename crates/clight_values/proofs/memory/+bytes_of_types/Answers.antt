@@ -1,7 +1,7 @@
 use Rattle.std.proofs.Common.{◌≡◌, ◌++◌, ◌<◌, map, ap, sym, subst, ◌∙◌, arith}
 use Rattle.c_types.specs.Types.{type_of, member_of}
 use Rattle.clight_values.specs.Memory.{kinds_by, kinds_of_members, nested_kinds, unset}
-use Rattle.clight_values.specs.Views.{cells_held, structs_held}
+use Rattle.clight_values.specs.Code.Views.{cells_held, structs_held}
 use Rattle.std.specs.Prelude.{OnOk}
 use Rattle.clight_values.proofs.Nesting.{element_added, member_steps, type_steps, members_steps, nested_steps, struct_missing, struct_found, struct_found_steps}
 use Rattle.clight_values.proofs.memory.+bytes_of_types.Goals as goal

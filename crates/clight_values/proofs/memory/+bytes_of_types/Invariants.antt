@@ -1,7 +1,7 @@
 use Rattle.std.proofs.Common.{◌≡◌, ◌++◌, map, drop}
 use Rattle.c_types.specs.Types.{type_of, member_of}
 use Rattle.clight_values.specs.Memory.{repeated, kinds_by, kinds_of_members, nested_kinds, unset}
-use Rattle.clight_values.specs.Views.{cells_held, structs_held}
+use Rattle.clight_values.specs.Code.Views.{cells_held, structs_held}
 use Rattle.clight_values.proofs.Nesting.{type_steps, members_steps, nested_steps}
 use Rattle.clight_values.proofs.memory.+bytes_of_types.Given as goal
 

@@ -5,7 +5,7 @@ use Rattle.clight_syntax.specs.TypedTrees as t
 use Rattle.clight_syntax.specs.Code.TypedViews.{earlier_argument_of, expr_of, program_of}
 use Rattle.clight_values.specs.declared.value.Value.{Value}
 use Rattle.clight_meaning.specs.Meaning.{argument_values}
-use Rattle.clight_meaning.specs.Views.{state_held}
+use Rattle.clight_meaning.specs.Code.Views.{state_held}
 use Rattle.clight_values.proofs.Walks.{opened}
 use Rattle.clight_meaning.proofs.Lists.{after, next_argument, argument_added}
 use Rattle.clight_meaning.proofs.state.State.argument_values.Goals as goal

@@ -2,7 +2,7 @@ use Rattle.std.proofs.Common.{◌≡◌, ◌+◌, ◌++◌, ◌∷◌, [], drop,
 use Rattle.clight_syntax.specs.TypedTrees.{EarlierArgument}
 use Rattle.clight_syntax.specs.Code.TypedViews.{arguments_of, earlier_argument_of, expr_of, program_of}
 use Rattle.clight_meaning.specs.Meaning.{argument_list, argument_values}
-use Rattle.clight_meaning.specs.Views.{state_held}
+use Rattle.clight_meaning.specs.Code.Views.{state_held}
 use Rattle.clight_meaning.proofs.Lists.{after}
 use Rattle.clight_meaning.proofs.state.State.argument_values.Given as goal
 

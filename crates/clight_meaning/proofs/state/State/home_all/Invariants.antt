@@ -1,7 +1,7 @@
 use Rattle.std.proofs.Common.{◌≡◌, ◌≤◌, drop}
 use Rattle.clight_meaning.specs.Meaning.{homed}
-use Rattle.clight_meaning.specs.Views.{state_held}
-use Rattle.clight_values.specs.Views.{variables_held}
+use Rattle.clight_meaning.specs.Code.Views.{state_held}
+use Rattle.clight_values.specs.Code.Views.{variables_held}
 use Rattle.clight_meaning.proofs.state.State.home_all.Given as goal
 
 abbrev pub invariant-loop-variable : goal.invariant-loop-variable

@@ -1,5 +1,5 @@
 use Rattle.std.proofs.Common.{◌∙◌, ap}
-use Rattle.clight_types.specs.HeldStructs.{structs_of}
+use Rattle.clight_types.specs.Code.HeldStructs.{structs_of}
 use Rattle.clight_types.specs.Places.{place_among}
 use Rattle.clight_types.proofs.StructLemmas.{number_at}
 use Rattle.clight_types.proofs.structs.Structs.number.Goals as goal

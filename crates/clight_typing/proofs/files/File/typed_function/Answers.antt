@@ -5,12 +5,12 @@ use Rattle.clight_syntax.specs.Code.TypedViews.{function_of, variable_of}
 use Rattle.clight_source.specs.Code.Views.{function_of as source_of}
 use Rattle.clight_typing.specs.Functions.{File, variables_from}
 use Rattle.clight_types.specs.Scopes.{Meanings}
-use Rattle.clight_typing.specs.HeldFile.{file_for}
+use Rattle.clight_typing.specs.Code.HeldFile.{file_for}
 use Rattle.clight_types.specs.Declarations.{parameters_of}
-use Rattle.clight_typing.specs.HeldFunction.{U, Function', parts_of, with_end, typed_parts, taken_within}
+use Rattle.clight_typing.specs.Code.HeldFunction.{U, Function', parts_of, with_end, typed_parts, taken_within}
 use Rattle.clight_typing.specs.Statements.{is_among}
-use Rattle.clight_typing.specs.HeldOwn.{own_of}
-use Rattle.clight_typing.specs.HeldScopes.{file_names}
+use Rattle.clight_typing.specs.Code.HeldOwn.{own_of}
+use Rattle.clight_typing.specs.Code.HeldScopes.{file_names}
 use Rattle.clight_types.specs.TypedExpressions.{TypeFault, Checked, ◌>>=◌}
 use Rattle.clight_typing.proofs.Gives.{faulted}
 use Rattle.clight_typing.proofs.FunctionParts.{same_parts, up_to_parts, up_to_few, up_to_same, function_done, made, own_parts, after_parts, parts_in}
@@ -18,7 +18,7 @@ use Rattle.clight_source.specs.Code.Views.{stmts_of}
 use Rattle.clight_typing.specs.declared.functions.Opening.{Opening}
 use Rattle.clight_typing.specs.TypedPrograms.{checked_types}
 use Rattle.indexmap.specs.IndexSet.{contains}
-use Rattle.clight_types.specs.HeldStructs.{structs_of}
+use Rattle.clight_types.specs.Code.HeldStructs.{structs_of}
 use Rattle.clight_typing.proofs.files.File.typed_function.Goals as goal
 
 pub returns-in_err-opening : goal.returns-in_err-opening

@@ -4,8 +4,8 @@ use Rattle.std.proofs.lemmas.Iterator.Consumers.{YieldsList-turn}
 use Rattle.std.proofs.lemmas.Iterator.Adapters.{YieldsList-from_vec}
 use Rattle.clight_source.specs.Code.Views.{item_of as source_of}
 use Rattle.clight_syntax.specs.Code.TypedViews.{item_of, function_of}
-use Rattle.clight_typing.specs.HeldFile.{file_for}
-use Rattle.clight_typing.specs.HeldFunction.{step_of, items_with, typed_item}
+use Rattle.clight_typing.specs.Code.HeldFile.{file_for}
+use Rattle.clight_typing.specs.Code.HeldFunction.{step_of, items_with, typed_item}
 use Rattle.clight_typing.specs.TypedPrograms.{typed_items}
 use Rattle.clight_typing.proofs.Gives.{faulted}
 use Rattle.clight_typing.proofs.ItemSteps.{behind, behind_none, items_next, items_fail}

@@ -1,7 +1,7 @@
 use Rattle.std.proofs.Common.{◌≡◌, ◌∙◌, ◌+◌, ◌++◌, take, ap, sym, append_assoc, subst, List, ℕ}
 use Rattle.std.specs.Prelude.{OnOk}
 use Rattle.clight_source.specs.Code.Views.{stmt_of, stmts_of}
-use Rattle.clight_typing.specs.HeldScopes.{scope_of}
+use Rattle.clight_typing.specs.Code.HeldScopes.{scope_of}
 use Rattle.clight_typing.specs.TypedStatements.{stmt_taken, stmts_taken}
 use Rattle.clight_typing.proofs.SourceRows.{block_is, take_next}
 use Rattle.clight_typing.proofs.scope.Scope.+add_stmt.Goals as goal

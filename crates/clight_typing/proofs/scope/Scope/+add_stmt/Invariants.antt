@@ -1,6 +1,6 @@
 use Rattle.std.proofs.Common.{◌≡◌, ◌++◌, take}
 use Rattle.clight_source.specs.Code.Views.{stmts_of}
-use Rattle.clight_typing.specs.HeldScopes.{scope_of}
+use Rattle.clight_typing.specs.Code.HeldScopes.{scope_of}
 use Rattle.clight_typing.specs.TypedStatements.{stmts_taken}
 use Rattle.clight_typing.proofs.scope.Scope.+add_stmt.Given as goal
 

@@ -1,6 +1,6 @@
 use Rattle.std.proofs.Common.{◌≡◌, ◌++◌, map, drop}
 use Rattle.clight_source.specs.Code.Views.{earlier_argument_of}
-use Rattle.clight_typing.specs.HeldScopes.{scope_of}
+use Rattle.clight_typing.specs.Code.HeldScopes.{scope_of}
 use Rattle.clight_typing.specs.TypedStatements.{earlier_taken}
 use Rattle.clight_typing.proofs.scope.Scope.add_earlier.Given as goal
 

@@ -1,6 +1,6 @@
 use Rattle.std.proofs.Common.{◌≡◌, drop}
-use Rattle.clight_typing.specs.HeldOwn.{listed}
-use Rattle.clight_typing.specs.HeldScopes.{scope_of}
+use Rattle.clight_typing.specs.Code.HeldOwn.{listed}
+use Rattle.clight_typing.specs.Code.HeldScopes.{scope_of}
 use Rattle.clight_typing.specs.TypedPrograms.{checked_parameters as checked_parameters_lem}
 use Rattle.clight_typing.proofs.scope.Scope.checked_listed.Given as goal
 

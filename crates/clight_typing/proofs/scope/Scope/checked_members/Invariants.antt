@@ -1,6 +1,6 @@
 use Rattle.std.proofs.Common.{◌≡◌, map, drop}
 use Rattle.clight_source.specs.Code.Views.{member_of}
-use Rattle.clight_typing.specs.HeldScopes.{scope_of}
+use Rattle.clight_typing.specs.Code.HeldScopes.{scope_of}
 use Rattle.clight_typing.specs.TypedPrograms.{checked_members as checked_members_lem}
 use Rattle.clight_typing.proofs.scope.Scope.checked_members.Given as goal
 

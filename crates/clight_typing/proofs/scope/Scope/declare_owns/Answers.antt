@@ -3,9 +3,9 @@ use Rattle.std.proofs.lemmas.List.{map-append, length_push, append-nil}
 use Rattle.std.proofs.lemmas.Iterator.Consumers.{YieldsList-turn}
 use Rattle.std.proofs.lemmas.Iterator.Adapters.{YieldsList-from_vec}
 use Rattle.clight_typing.specs.Functions.{Own, object}
-use Rattle.clight_typing.specs.HeldFile.{an_own, with_owns}
-use Rattle.clight_typing.specs.HeldOwn.{own_of}
-use Rattle.clight_typing.specs.HeldScopes.{scope_of, declared_in}
+use Rattle.clight_typing.specs.Code.HeldFile.{an_own, with_owns}
+use Rattle.clight_typing.specs.Code.HeldOwn.{own_of}
+use Rattle.clight_typing.specs.Code.HeldScopes.{scope_of, declared_in}
 use Rattle.clight_types.specs.Scopes.{Scope, visible}
 use Rattle.clight_typing.proofs.Walks.{from_here, moved}
 use Rattle.clight_typing.proofs.scope.Scope.declare_owns.Goals as goal

@@ -1,7 +1,7 @@
 use Rattle.std.proofs.Common.{◌≡◌, ◌+◌, ◌++◌, length, map, drop}
-use Rattle.clight_typing.specs.HeldFile.{with_owns}
-use Rattle.clight_typing.specs.HeldOwn.{own_of}
-use Rattle.clight_typing.specs.HeldScopes.{scope_of, file_names}
+use Rattle.clight_typing.specs.Code.HeldFile.{with_owns}
+use Rattle.clight_typing.specs.Code.HeldOwn.{own_of}
+use Rattle.clight_typing.specs.Code.HeldScopes.{scope_of, file_names}
 use Rattle.clight_types.specs.Scopes.{visible}
 use Rattle.clight_typing.proofs.scope.Scope.declare_owns.Given as goal
 

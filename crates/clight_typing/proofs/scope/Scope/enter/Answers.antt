@@ -2,12 +2,12 @@ use Rattle.std.proofs.Common.{◌≡◌, ◌∙◌, List, map, ap}
 use Rattle.clight_source.specs.Code.Views.{parameters_of as source_of}
 use Rattle.clight_types.specs.Declarations.{parameters_of}
 use Rattle.clight_typing.specs.Functions.{parameter_own}
-use Rattle.clight_typing.specs.HeldFile.{with_owns}
-use Rattle.clight_typing.specs.HeldOwn.{own_of}
-use Rattle.clight_typing.specs.HeldScopes.{file_names, scope_of}
+use Rattle.clight_typing.specs.Code.HeldFile.{with_owns}
+use Rattle.clight_typing.specs.Code.HeldOwn.{own_of}
+use Rattle.clight_typing.specs.Code.HeldScopes.{file_names, scope_of}
 use Rattle.clight_types.specs.Scopes.{Scope, visible}
 use Rattle.clight_typing.proofs.Parameters.{owns_are}
-use Rattle.clight_types.specs.HeldStructs.{structs_of}
+use Rattle.clight_types.specs.Code.HeldStructs.{structs_of}
 use Rattle.clight_typing.proofs.scope.Scope.enter.Goals as goal
 
 pub returns-clause-scope : goal.returns-clause-scope

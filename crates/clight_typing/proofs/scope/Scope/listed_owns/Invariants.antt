@@ -1,7 +1,7 @@
 use Rattle.std.proofs.Common.{◌≡◌, ◌++◌, map, drop}
 use Rattle.clight_typing.specs.Functions.{parameter_own}
-use Rattle.clight_typing.specs.HeldOwn.{own_of, listed}
-use Rattle.clight_typing.specs.HeldScopes.{scope_of}
+use Rattle.clight_typing.specs.Code.HeldOwn.{own_of, listed}
+use Rattle.clight_typing.specs.Code.HeldScopes.{scope_of}
 use Rattle.clight_typing.proofs.scope.Scope.listed_owns.Given as goal
 
 abbrev pub invariant-loop-x : goal.invariant-loop-x

@@ -2,8 +2,8 @@ use Rattle.std.proofs.Common.{◌≡◌, ◌+◌, ◌≤◌, map, drop}
 use Rattle.std.specs.Prelude.{min}
 use Rattle.clight_source.specs.Code.Views.{member_of}
 use Rattle.clight_types.specs.Declarations.{size_of_members}
-use Rattle.clight_types.specs.Held.{size_cap}
-use Rattle.clight_typing.specs.HeldScopes.{scope_of}
+use Rattle.clight_types.specs.Code.Held.{size_cap}
+use Rattle.clight_typing.specs.Code.HeldScopes.{scope_of}
 use Rattle.clight_typing.proofs.scope.Scope.members_size.Given as goal
 
 abbrev pub invariant-loop-x : goal.invariant-loop-x

@@ -5,7 +5,7 @@ use Rattle.clight_types.specs.Declarations.{declared_type, parameters_of}
 use Rattle.clight_typing.specs.Functions.{Own}
 use Rattle.clight_types.specs.Scopes.{Signature}
 use Rattle.clight_typing.proofs.Parameters.{own_types}
-use Rattle.clight_types.specs.HeldStructs.{structs_of}
+use Rattle.clight_types.specs.Code.HeldStructs.{structs_of}
 use Rattle.clight_typing.proofs.scope.Scope.signature.Goals as goal
 
 pub returns : goal.returns

@@ -2,7 +2,7 @@ use Rattle.std.proofs.Common.{◌≡◌, ◌∙◌, ◌+◌, Err, rules, List, [
 use Rattle.std.proofs.lemmas.List.{map-append}
 use Rattle.clight_source.specs.Code.Views.{earlier_argument_of as source_of, expr_of as expr_source_of}
 use Rattle.clight_syntax.specs.Code.TypedViews.{earlier_argument_of, expr_of}
-use Rattle.clight_typing.specs.HeldScopes.{scope_of}
+use Rattle.clight_typing.specs.Code.HeldScopes.{scope_of}
 use Rattle.clight_types.specs.TypedExpressions.{typed_value}
 use Rattle.clight_typing.specs.TypedStatements.{typed_earlier}
 use Rattle.clight_typing.proofs.Gives.{faulted}

@@ -1,7 +1,7 @@
 use Rattle.std.proofs.Common.{◌≡◌, map, drop}
 use Rattle.clight_source.specs.Code.Views.{earlier_argument_of as earlier_source_of}
 use Rattle.clight_syntax.specs.Code.TypedViews.{earlier_argument_of}
-use Rattle.clight_typing.specs.HeldScopes.{scope_of}
+use Rattle.clight_typing.specs.Code.HeldScopes.{scope_of}
 use Rattle.clight_typing.specs.TypedStatements.{typed_earlier as typed_earlier_lem}
 use Rattle.clight_typing.proofs.Walks.{ahead}
 use Rattle.clight_typing.proofs.scope.Scope.typed_earlier.Given as goal

@@ -7,9 +7,9 @@ use Rattle.clight_syntax.specs.TypedTrees.{Local}
 use Rattle.clight_source.specs.Code.Views.{local_of as source_of}
 use Rattle.clight_syntax.specs.Code.TypedViews.{local_of}
 use Rattle.clight_typing.specs.Functions.{Own}
-use Rattle.clight_typing.specs.HeldFile.{source_own}
-use Rattle.clight_typing.specs.HeldOwn.{own_of}
-use Rattle.clight_typing.specs.HeldScopes.{scope_of}
+use Rattle.clight_typing.specs.Code.HeldFile.{source_own}
+use Rattle.clight_typing.specs.Code.HeldOwn.{own_of}
+use Rattle.clight_typing.specs.Code.HeldScopes.{scope_of}
 use Rattle.clight_types.specs.Scopes.{Scope, visible}
 use Rattle.clight_types.specs.TypedExpressions.{Checked}
 use Rattle.clight_typing.specs.TypedPrograms.{typed_local, scope_at, behind_locals, first_value_taken, locals_taken}

@@ -1,9 +1,9 @@
 use Rattle.std.proofs.Common.{◌≡◌, ◌+◌, ◌++◌, length, map, drop}
 use Rattle.clight_syntax.specs.Code.TypedViews.{local_of}
 use Rattle.clight_source.specs.Code.Views.{local_of as local_source_of}
-use Rattle.clight_typing.specs.HeldFile.{source_own}
-use Rattle.clight_typing.specs.HeldOwn.{own_of}
-use Rattle.clight_typing.specs.HeldScopes.{scope_of, file_names}
+use Rattle.clight_typing.specs.Code.HeldFile.{source_own}
+use Rattle.clight_typing.specs.Code.HeldOwn.{own_of}
+use Rattle.clight_typing.specs.Code.HeldScopes.{scope_of, file_names}
 use Rattle.clight_types.specs.Scopes.{visible}
 use Rattle.clight_typing.specs.TypedPrograms.{typed_locals as typed_locals_lem, behind_locals, locals_taken}
 use Rattle.clight_typing.proofs.Walks.{ahead}

@@ -4,7 +4,7 @@ use Rattle.clight_syntax.specs.TypedTrees as p
 use Rattle.clight_source.specs.Code.Views.{stmt_of as source_of, stmts_of as sources_of}
 use Rattle.clight_syntax.specs.Code.TypedViews.{stmt_of, stmts_of}
 use Rattle.clight_syntax.proofs.TypedRows as typed
-use Rattle.clight_typing.specs.HeldBody.{body_for}
+use Rattle.clight_typing.specs.Code.HeldBody.{body_for}
 use Rattle.clight_types.specs.TypedExpressions.{Checked, ◌>>=◌}
 use Rattle.clight_typing.specs.TypedStatements.{typed_stmt, typed_stmts}
 use Rattle.clight_typing.proofs.Gives.{faulted}

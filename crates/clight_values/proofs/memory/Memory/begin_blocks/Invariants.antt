@@ -1,7 +1,7 @@
 use Rattle.std.proofs.Common.{◌≡◌, drop}
 use Rattle.clight_values.specs.Memory.{with_blocks}
 use Rattle.clight_values.specs.Memory.{own_blocks}
-use Rattle.clight_values.specs.Views.{memory_held, structs_held, variables_held}
+use Rattle.clight_values.specs.Code.Views.{memory_held, structs_held, variables_held}
 use Rattle.clight_values.proofs.memory.Memory.begin_blocks.Given as goal
 
 abbrev pub invariant-loop-variable : goal.invariant-loop-variable

@@ -4,7 +4,7 @@ use Rattle.c_types.specs.Types.{type_of, struct_type_of}
 use Rattle.clight_source.specs.Code.Views.{initialiser_of}
 use Rattle.clight_values.specs.Memory as m
 use Rattle.clight_values.specs.Globals.{filled, numbers_of}
-use Rattle.clight_values.specs.Views.{cell_held, cells_held, structs_held, kinds_held}
+use Rattle.clight_values.specs.Code.Views.{cell_held, cells_held, structs_held, kinds_held}
 use Rattle.clight_values.proofs.Filling.{global_is}
 use Rattle.clight_values.proofs.memory.Memory.begin_global.Goals as goal
 

@@ -1,5 +1,5 @@
 use Rattle.std.proofs.Common.{ap, sym, ◌∙◌}
-use Rattle.clight_values.specs.Views.{cells_held}
+use Rattle.clight_values.specs.Code.Views.{cells_held}
 use Rattle.clight_values.proofs.HeldCells.{left_is}
 use Rattle.clight_values.proofs.memory.Memory.leave.Goals as goal
 

@@ -1,7 +1,7 @@
 use Rattle.std.proofs.Common.{◌≡◌, ◌≤◌, ◌++◌, drop}
 use Rattle.clight_source.specs.Code.Views.{initialiser_of}
 use Rattle.clight_values.specs.Globals.{filled, numbers_of}
-use Rattle.clight_values.specs.Views.{cells_held, kinds_held}
+use Rattle.clight_values.specs.Code.Views.{cells_held, kinds_held}
 use Rattle.clight_values.proofs.memory.Memory.push_filled.Given as goal
 
 abbrev pub invariant-loop-cell : goal.invariant-loop-cell

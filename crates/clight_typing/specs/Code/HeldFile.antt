@@ -9,13 +9,13 @@ use Rattle.clight_source.specs.declared.tree.Name.{Name}
 use Rattle.clight_syntax.specs.declared.typed.Item.{Item as HeldItem}
 use Rattle.clight_types.specs.Declarations.{declaration_type}
 use Rattle.clight_typing.specs.Functions.{File, Own, object}
-use Rattle.clight_typing.specs.HeldOwn.{own_of}
-use Rattle.clight_typing.specs.HeldScopes.{file_names, scope_of}
+use Rattle.clight_typing.specs.Code.HeldOwn.{own_of}
+use Rattle.clight_typing.specs.Code.HeldScopes.{file_names, scope_of}
 use Rattle.clight_types.specs.Scopes.{Scope, Meanings, declare, visible}
 use Rattle.clight_typing.specs.TypedPrograms.{behind_locals, locals_taken}
 use Rattle.clight_typing.specs.declared.files.File.{File as HeldFile}
 use Rattle.clight_typing.specs.declared.headers.Own.{Own as HeldOwn}
-use Rattle.clight_types.specs.HeldStructs.{structs_of}
+use Rattle.clight_types.specs.Code.HeldStructs.{structs_of}
 
 abbrev pub file_for : HeldFile → File
 file_for x = record {

@@ -9,7 +9,7 @@ use Rattle.clight_typing.specs.declared.scope.Meaning.{Meaning as HeldMeaning}
 use Rattle.clight_typing.specs.declared.scope.Meaning.TheVariants as m
 use Rattle.clight_typing.specs.declared.scope.Scope.{Scope as HeldScope}
 use Rattle.indexmap.specs.IndexMap.{get}
-use Rattle.clight_types.specs.HeldStructs.{structs_of}
+use Rattle.clight_types.specs.Code.HeldStructs.{structs_of}
 
 abbrev pub signature_for : HeldSignature → Signature
 signature_for x = record { result = type_of x.result; parameters = map type_of x.parameters.items }

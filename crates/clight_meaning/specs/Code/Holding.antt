@@ -16,9 +16,9 @@ use Rattle.clight_meaning.specs.declared.running.Part.TheVariants as part
 use Rattle.clight_meaning.specs.declared.running.Work.{Work}
 use Rattle.clight_meaning.specs.declared.running.Work.TheVariants as work
 use Rattle.clight_meaning.specs.declared.running.Running.{Running}
-use Rattle.clight_meaning.specs.Evaluation as n
+use Rattle.clight_meaning.specs.Code.Evaluation as n
 use Rattle.clight_values.specs.Memory.{State}
-use Rattle.clight_meaning.specs.Views.{frame_held, state_held}
+use Rattle.clight_meaning.specs.Code.Views.{frame_held, state_held}
 
 abbrev pub way_held : Way → n.Way
 way_held way.Break = n.ByBreak

@@ -1,7 +1,7 @@
 -- What stands around the statements of a function, as the checker holds it.
 use Rattle.std.specs.Prelude.{nat_eq}
 use Rattle.c_types.specs.Types.{type_of}
-use Rattle.clight_typing.specs.HeldScopes.{scope_of}
+use Rattle.clight_typing.specs.Code.HeldScopes.{scope_of}
 use Rattle.clight_typing.specs.Statements.{Body}
 use Rattle.clight_typing.specs.declared.statements.Body.{Body as HeldBody}
 use Rattle.indexmap.specs.IndexSet.{contains}

@@ -11,7 +11,7 @@ use Rattle.clight_meaning.specs.declared.state.Frame.{Frame}
 use Rattle.clight_meaning.specs.declared.state.State.{State}
 use Rattle.clight_meaning.specs.declared.state.Position.{Position}
 use Rattle.clight_meaning.specs.declared.state.Position.TheVariants.{InCall, Behind}
-use Rattle.clight_values.specs.Views.{memory_held, type_held}
+use Rattle.clight_values.specs.Code.Views.{memory_held, type_held}
 
 abbrev pub frame_held : Frame → m.Frame
 frame_held f = record { blocks = f.blocks; cells = f.cells; call = f.call; depth = f.depth; result = type_held f.result; scalars = f.scalars.items }

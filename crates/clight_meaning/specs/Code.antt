@@ -1,0 +1,4 @@
+pub mod Evaluation
+pub mod Holding
+pub mod Missing
+pub mod Views

@@ -1,0 +1,4 @@
+pub mod Held
+pub mod HeldNames
+pub mod HeldStructs
+pub mod HeldJudged

@@ -1,0 +1,5 @@
+pub mod HeldBody
+pub mod HeldFile
+pub mod HeldFunction
+pub mod HeldOwn
+pub mod HeldScopes
