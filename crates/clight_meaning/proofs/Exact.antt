@@ -8,7 +8,7 @@ use Rattle.cerco_base.specs.declared.events.FaultKind.{FaultKind}
 use Rattle.clight_meaning.specs.declared.turn.Turn.{Turn}
 use Rattle.clight_meaning.specs.declared.turn.Turn.TheVariants as turn
 use Rattle.clight_meaning.specs.Meaning.{Rest}
-use Rattle.clight_meaning.specs.Turns.{Tells, OnlyEnds, OnlyFaults}
+use Rattle.clight_meaning.specs.Code.Turns.{Tells, OnlyEnds, OnlyFaults}
 
 abbrev events : Outcome FaultKind → List Event
 events (Stops es s) = es

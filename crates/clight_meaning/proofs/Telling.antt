@@ -14,7 +14,7 @@ use Rattle.clight_meaning.specs.Meaning.{Rest, only, passes, says}
 use Rattle.clight_meaning.specs.Code.Evaluation.{Work, Faulty, Move, Silent, Says, SaysAndFails, Fails, Ends, rest_of, stepped}
 use Rattle.clight_meaning.specs.Code.Holding.{Matches, IsFaulty, Does, works_held}
 use Rattle.clight_meaning.specs.Code.Views.{state_held}
-use Rattle.clight_meaning.specs.Turns.{Tells, rest_held}
+use Rattle.clight_meaning.specs.Code.Turns.{Tells, rest_held}
 use Rattle.clight_meaning.proofs.Moving.{Moves, moves_step}
 use Rattle.clight_meaning.proofs.Weights.{Lessens, total_weight, lessens_step}
 

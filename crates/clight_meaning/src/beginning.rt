@@ -6,7 +6,7 @@ ghost use Rattle.clight_values.specs.Memory as m;
 ghost use Rattle.clight_meaning.specs.Meaning as e;
 ghost use Rattle.clight_meaning.specs.Code.Evaluation as n;
 ghost use Rattle.clight_meaning.specs.Code.Holding.{Announces, work_held, works_held};
-ghost use Rattle.clight_meaning.specs.Turns.{rest_held};
+ghost use Rattle.clight_meaning.specs.Code.Turns.{rest_held};
 ghost use Rattle.clight_values.specs.Code.Views.{memory_held};
 ghost use Rattle.clight_meaning.specs.Code.Views.{state_held};
 

@@ -3,7 +3,7 @@ ghost use Rattle.std.specs.Prelude.{◌≡◌, ◌+◌, ◌<◌, ◌≤◌, ◌^
 ghost use Rattle.cerco_base.specs.declared.events.FaultKind.{FaultKind};
 ghost use Rattle.clight_syntax.specs.Code.TypedViews.{labelled_of};
 ghost use Rattle.clight_meaning.specs.Meaning.{source};
-ghost use Rattle.clight_meaning.specs.Turns.{rest, Tells, OnlyEnds, OnlyFaults, labels_told};
+ghost use Rattle.clight_meaning.specs.Code.Turns.{rest, Tells, OnlyEnds, OnlyFaults, labels_told};
 
 use crate::running::Running;
 use crate::turn::Turn;

@@ -10,7 +10,7 @@ ghost use Rattle.clight_meaning.specs.Meaning as e;
 ghost use Rattle.clight_meaning.specs.Code.Evaluation as n;
 ghost use Rattle.clight_values.specs.Memory.{State as HeldState};
 ghost use Rattle.clight_meaning.specs.Code.Holding.{condition_held, Does, Enters, Pops, Pushes, work_held, works_held, way_held};
-ghost use Rattle.clight_meaning.specs.Turns.{Tells, rest_held};
+ghost use Rattle.clight_meaning.specs.Code.Turns.{Tells, rest_held};
 ghost use Rattle.clight_values.specs.Code.Views.{Makes};
 ghost use Rattle.clight_meaning.specs.Code.Views.{frame_held, state_held};
 ghost use Rattle.cerco_base.specs.declared.events.FaultKind.{FaultKind};

@@ -1,7 +1,7 @@
 use Rattle.std.proofs.Common.{sym, ap, ◌∙◌}
 use Rattle.std.specs.Prelude.{option_map, option_copied}
 use Rattle.clight_syntax.specs.Code.TypedViews.{function_of, program_of}
-use Rattle.clight_meaning.specs.Turns.{rest_held}
+use Rattle.clight_meaning.specs.Code.Turns.{rest_held}
 use Rattle.clight_meaning.specs.Code.Views.{state_held}
 use Rattle.clight_meaning.proofs.Opening.{nothing_left, main_opened}
 use Rattle.clight_meaning.proofs.running.Running.new.Goals as goal

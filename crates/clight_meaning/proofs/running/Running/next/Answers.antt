@@ -1,6 +1,6 @@
 use Rattle.std.proofs.Common.{subst, sym, ◌∙◌}
 use Rattle.clight_meaning.specs.Code.Holding.{Does}
-use Rattle.clight_meaning.specs.Turns.{Tells, rest_held}
+use Rattle.clight_meaning.specs.Code.Turns.{Tells, rest_held}
 use Rattle.clight_meaning.proofs.Telling.{the_move, step_tells, step_silent, step_lessens}
 use Rattle.clight_meaning.proofs.running.Running.next.Goals as goal
 

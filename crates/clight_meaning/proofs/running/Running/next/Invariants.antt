@@ -1,6 +1,6 @@
 use Rattle.std.proofs.Common.{◌≡◌}
 use Rattle.clight_meaning.specs.Code.Holding.{works_held}
-use Rattle.clight_meaning.specs.Turns.{rest_held}
+use Rattle.clight_meaning.specs.Code.Turns.{rest_held}
 use Rattle.clight_meaning.proofs.Weights.{total_weight}
 use Rattle.clight_meaning.proofs.running.Running.next.Given as goal
 
