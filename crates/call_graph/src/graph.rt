@@ -53,8 +53,8 @@ impl CallGraph {
         self.nodes.len() as u32
     }
 
-    /// One more call: `caller` calls `callee`. A function may call another several times. After
-    /// want of memory the calls are unchanged.
+    /// One more call: `caller` calls `callee`. A function may call another several times. When
+    /// out of memory, the calls are unchanged.
     pub fn add_call(&mut self, caller: u32, callee: u32) -> Result<(), NoMemory>
         requires caller { caller < length self.old }
         requires callee { callee < length self.old }
@@ -66,7 +66,7 @@ impl CallGraph {
 
     /// The functions in the order of their calls, each with those that call it, or the first
     /// function that is on a cycle of calls. A fault names such a function exactly where there is
-    /// one, but for want of memory.
+    /// one, unless out of memory.
     pub fn order(&self, alloc: Global) -> Result<CallOrder, OrderFault>
         ensures order { IfOk result (IsOrderOf self.now) }
         ensures no_cycle { OnOk result ((f : ℕ) → IsOnCycle (length self.now) (Calls self.now) f → ⊥) }

@@ -43,7 +43,7 @@ fn forget_callee(nodes: &mut [Node], function: u32)
     let _ = nodes[function as usize].callees.pop();
 }
 
-// One more call. After want of memory the calls are as they were.
+// One more call. When out of memory, the calls are as they were.
 pub(crate) fn connect(nodes: &mut [Node], caller: u32, callee: u32) -> Result<(), NoMemory>
     requires caller { caller < length nodes.old }
     requires callee { callee < length nodes.old }

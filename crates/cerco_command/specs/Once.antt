@@ -8,14 +8,14 @@ use Rattle.cerco_command.specs.Running.{RunsTo}
 use Rattle.cerco_command.specs.declared.status.Status.{Status}
 use Rattle.cerco_command.specs.declared.status.Status.TheVariants as Is
 
--- an answer whose cause isn't a fault or want of memory
+-- an answer whose cause isn't a fault or out of memory
 abbrev pub IsFirm : Status → Type 0
 IsFirm Is.FileFault = ⊥
 IsFirm Is.OutFault = ⊥
 IsFirm Is.NoMemory = ⊥
 IsFirm status = Unit {0}
 
--- Over files whose contents are known, one status at most is meant, with one text, but for faults and want of memory: the
+-- Over files whose contents are known, one status at most is meant, with one text, but for faults and out of memory: the
 -- causes of different answers exclude each other.
 abbrev pub MeansOnce : (FilesState → FilesState → Status → List ℕ → Type 0) → Type 0
 MeansOnce Means =

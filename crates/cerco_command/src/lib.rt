@@ -61,7 +61,7 @@ fn carry_out<F: Files, O: Sink>(
 /// The whole program: its words after the program's name, its files and its output. The result is the exit status.
 pub fn cerco<F: Files, O: Sink>(alloc: Global, words: &[String], files: &mut F, out: &mut O) -> u8
     ensures ends { EndsWith (Means (request_of (map string_bytes words.now)) (F.state files.old) (F.state files.new)) (O.state out.old) (O.state out.new) result }
-    // the files determine what is meant, but for faults and want of memory
+    // the files determine what is meant, but for faults and out of memory
     ensures once { MeansOnce (Means (request_of (map string_bytes words.now))) }
 {
     carry_out(alloc, words, files, out).code()

@@ -38,7 +38,7 @@ IsUnsound p (StackFull depth) = HasNoLayout p (StackFull depth)
 IsUnsound p (DataFull total) = HasNoLayout p (DataFull total)
 IsUnsound p reason = ⊥
 
--- of want of memory nothing is said
+-- nothing is said of being out of memory
 abbrev pub IsRefused : Program → Fault → Type 0
 IsRefused p OutOfMemory = Unit {0}
 IsRefused p (Refused reason) = IsUnsound p reason

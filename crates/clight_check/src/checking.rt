@@ -24,7 +24,7 @@ use std::alloc::Global;
 /// - `StackFull`: a path of calls has more than 64 functions, where none of these reasons is there;
 /// - `DataFull`: the globals and the largest frames of a call path have more than 65,534 bytes, where none of these reasons is there.
 ///
-/// Or want of memory. The program is dropped then.
+/// Or out of memory. The program is dropped then.
 pub fn check(alloc: Global, program: Program) -> Result<Typed, Fault>
     ensures sound { IfOk result (λ t. IsSound (program_source_of program) (program_of t)) }
     ensures unsound { IfErr result (IsRefused (program_source_of program)) }

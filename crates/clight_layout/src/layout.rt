@@ -137,7 +137,7 @@ fn with_addresses(program: Typed, measured: Measured, order: CallOrder) -> Resul
 /// # Errors
 ///
 /// The first of these: `Recursion` at the name of the first function on a cycle of calls, `StackFull` where a call path has more than
-/// 64 functions, `DataFull` where the globals and the largest frames of a call path have more than 65,534 bytes. Or want of memory. The
+/// 64 functions, `DataFull` where the globals and the largest frames of a call path have more than 65,534 bytes. Or out of memory. The
 /// program is dropped then.
 pub fn lay_out(alloc: Global, program: Typed) -> Result<Typed, Fault>
     ensures { Answers (program_of program) (λ q. IsLayout (program_of program) (program_of q)) result }

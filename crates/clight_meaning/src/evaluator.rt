@@ -40,8 +40,8 @@ impl<'a> Evaluator<'a> {
         })
     }
 
-    /// The next event of the meaning, or that the run has ended or meets a fault, which is answered again from then on. After want
-    /// of memory it answers want of memory from then on.
+    /// The next event of the meaning, or that the run has ended or meets a fault, which is answered again from then on. Once out
+    /// of memory it answers out of memory from then on.
     #[tactic(auto, using(crate::proofs::Exact::only_answers))]
     pub fn next(&mut self) -> Result<Turn, NoMemory>
         requires { self.old.labels < 2 ^ 62 }

@@ -73,7 +73,7 @@ fn judge(
 /// # Errors
 ///
 /// The first wrong name in the order of the text, with its place and what is wrong with it (ISO/IEC 9899:1999, 6.2.1, 6.7, 6.9 and
-/// 7.1.3, in the compiler's profile). A missing `main` stands at the text's end. Or want of memory.
+/// 7.1.3, in the compiler's profile). A missing `main` stands at the text's end. Or out of memory.
 pub fn check_names(alloc: Global, program: &Program) -> Result<(), Fault>
     ensures { AnswersFault result (first_name_fault (program_of program.now)) }
 {

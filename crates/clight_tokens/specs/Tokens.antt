@@ -96,7 +96,7 @@ pub record IsTokenised (t : Tokenised) : Type 0 where
   pub tokens : HasTokens text t.tokens
   pub length_is : length text ≡ t.length
 
--- why a text has no tokens: the first of these reasons, and its first place. Of want of memory nothing is said.
+-- why a text has no tokens: the first of these reasons, and its first place. Nothing is said of being out of memory.
 abbrev pub HasFault : List ℕ → Fault → Type 0
 HasFault text OutOfMemory = Unit {0}
 HasFault text (Refused r.TooLong) = 65535 < length text

@@ -30,7 +30,7 @@ impl PortWrites {
         }
     }
 
-    /// Adds a value at the end. After want of memory the list is unchanged.
+    /// Adds a value at the end. When out of memory, the list is unchanged.
     pub fn push(&mut self, value: u8) -> Result<(), NoMemory>
         ensures added { OnOk result (self.new ≡ self.old ++ value ∷ []) }
         ensures same { OnErr result (self.new ≡ self.old) }

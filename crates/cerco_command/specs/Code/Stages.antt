@@ -26,7 +26,7 @@ use Rattle.cerco_command.specs.declared.reply.Reply.{Reply}
 use Rattle.cerco_command.specs.declared.status.Status.{Status}
 use Rattle.cerco_command.specs.declared.status.Status.TheVariants.{Done, Refused, FileFault, NoMemory}
 
--- a reply with this status and line, or want of memory
+-- a reply with this status and line, or out of memory
 abbrev pub Replies : Status → List ℕ → Status → List ℕ → Type 0
 Replies meant text status line = ((status ≡ meant) × (line ≡ text)) ⊎ ((status ≡ NoMemory) × (line ≡ []))
 
@@ -35,7 +35,7 @@ abbrev pub IsProgram : List ℕ → Option Plain → Type 0
 IsProgram text (Some plain) = IsPlainProgram text plain
 IsProgram text None = IsOtherProgram text
 
--- why a text is no sound program. Of want of memory nothing is said
+-- why a text is no sound program. Nothing is said of being out of memory
 abbrev pub IsNoProgram : List ℕ → Fault → Type 0
 IsNoProgram text f.OutOfMemory = Unit {0}
 IsNoProgram text (f.Refused reason) = HasFirstReason text reason

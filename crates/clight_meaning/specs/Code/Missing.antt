@@ -5,7 +5,7 @@ use Rattle.clight_values.specs.declared.value.Value.{Value}
 use Rattle.clight_meaning.specs.declared.calls.Missing.{Missing}
 use Rattle.clight_meaning.specs.declared.calls.Missing.TheVariants.{Fault, Memory}
 
--- the fault is that of the values, and want of memory may always come
+-- the fault is that of the values, and out of memory may always come
 abbrev pub MayMiss : {A : Type 0} → Result A FaultKind → Missing → Type 0
 MayMiss r (Fault k) = r ≡ Err k
 MayMiss r Memory = Unit {0}

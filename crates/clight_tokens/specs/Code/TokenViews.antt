@@ -18,7 +18,7 @@ kept kind t = cond (s.is_token kind) (t ∷ []) []
 abbrev pub AllSourceBytes : List ℕ → Type 0
 AllSourceBytes s = list_all is_source_byte s ≡ true
 
--- a division into tokens fails at a place, or for want of memory
+-- a division into tokens fails at a place, or out of memory
 abbrev pub IsScanFault : List ℕ → Fault → Type 0
 IsScanFault text OutOfMemory = Unit {0}
 IsScanFault text (Refused (r.Token q)) = s.FaultFrom 0 text q

@@ -79,7 +79,7 @@ impl HexReader {
 ///
 /// # Errors
 ///
-/// The first bad line of a text that is no hex text, or want of memory.
+/// The first bad line of a text that is no hex text, or out of memory.
 pub fn read_hex(alloc: Global, text: &[u8]) -> Result<Code, HexError>
     requires { length text.now ≤ 4294967294 }
     ensures answer { IsHexAnswer text.now result }

@@ -76,7 +76,7 @@ fn take_line(label: usize, line: &[u8], seen: &mut Vec<bool>) -> Option<u16>
 ///
 /// # Errors
 ///
-/// The first bad line of a text that is none, or want of memory.
+/// The first bad line of a text that is none, or out of memory.
 pub fn read_map(alloc: Global, text: &[u8]) -> Result<LabelList, MapError>
     requires { length text.now ≤ 4294967294 }
     ensures answer { IsMapAnswer text.now result }
