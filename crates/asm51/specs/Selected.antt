@@ -7,7 +7,7 @@ use Rattle.mcs51_isa.specs.declared.instr.Instr.TheVariants.{Sjmp, Ret, MovDirec
 use Rattle.sim51.specs.Straight.{IsStraight}
 use Rattle.sim51.specs.StackApart.{SparesStack}
 use Rattle.asm51.specs.declared.items.AsmItem.{AsmItem}
-use Rattle.asm51.specs.declared.items.AsmItem.TheVariants.{Plain, Jump}
+use Rattle.asm51.specs.declared.items.AsmItem.TheVariants.{Plain, Jump, Test, Call}
 use Rattle.asm51.specs.Items.{target_of}
 use Rattle.asm51.specs.WellFormed.{IsWellFormed}
 use Rattle.asm51.specs.Numbered.{OfEachItem}
@@ -29,13 +29,17 @@ ItemIsSelectable item = Unit {0}
 abbrev pub InstructionsAreSelectable : List AsmItem → Type 0
 InstructionsAreSelectable items = AllByRecursion ItemIsSelectable (drop 1 items)
 
--- Between each jump and a target before it an instruction stands, so that no jump is a jump to itself.
-abbrev pub is_plain : AsmItem → Bool
-is_plain (Plain i) = true
-is_plain item = false
+-- an instruction, or what becomes one or several
+abbrev pub has_code : AsmItem → Bool
+has_code (Plain i) = true
+has_code (Jump f n) = true
+has_code (Test f n) = true
+has_code (Call f) = true
+has_code item = false
 
+-- Between each jump and a target before it there is code, so that no jump is a jump to itself.
 abbrev pub TurnsBack : List AsmItem → ℕ → AsmItem → Type 0
-TurnsBack items k (Jump f n) = target_of items (Jump f n) ≤ k → 1 ≤ count_by is_plain (drop (target_of items (Jump f n)) (take k items))
+TurnsBack items k (Jump f n) = target_of items (Jump f n) ≤ k → 1 ≤ count_by has_code (drop (target_of items (Jump f n)) (take k items))
 TurnsBack items k item = Unit {0}
 
 abbrev pub JumpsTurnBack : List AsmItem → Type 0
