@@ -1,0 +1,4 @@
+pub mod Ordering
+pub mod Kept
+pub mod Linearised
+pub mod Code
