@@ -1,0 +1,5 @@
+pub mod Tables
+pub mod Forms
+pub mod Anchors
+pub mod Steps
+pub mod Emitting

@@ -1,0 +1,9 @@
+pub mod Lists
+pub mod Selections
+pub mod Laid
+pub mod Objects
+pub mod Labels
+pub mod Places
+pub mod Follows
+pub mod Steps
+pub mod Preserved

@@ -1,0 +1,2 @@
+pub mod Preserved
+pub mod Stands
