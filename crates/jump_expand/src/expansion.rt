@@ -15,9 +15,9 @@ use asm51::{Asm, AsmItem, Form, FormList, JumpLayout, NumberList};
 use cerco_base::{Fault, NoMemory, Reason};
 use std::alloc::Global;
 
-/// The form of each item of a program, and their addresses.
+// The form of each item of a program, and their addresses.
 #[derive(Drop)]
-pub struct Relaxed {
+struct Relaxed {
     forms: Vec<Option<Form>>,
     addresses: Addresses,
 }
