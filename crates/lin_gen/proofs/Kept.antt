@@ -51,7 +51,7 @@ exits_summed h k is none g items o f =
     let exits = total_gathered f (λ n. k n.exit) g.nodes in
     let ordered = sum_ordered weight g o.order o.ordered in
     let each : (p : ℕ) → total f (h (Item.Here p) ++ (gathered no_op (ops_at g p) ++ k (exit_at g p))) ≡ weight (node_at g p) =
-        λ p. ap (λ z. total f (z ++ (gathered no_op (ops_at g p) ++ k (exit_at g p)))) (none p) ∙ ap (λ z. total f (z ++ k (exit_at g p))) (gathered_none (ops_at g p)) in
+    λ p. ap (λ z. total f (z ++ (gathered no_op (ops_at g p) ++ k (exit_at g p)))) (none p) ∙ ap (λ z. total f (z ++ k (exit_at g p))) (gathered_none (ops_at g p)) in
     let all = total_same (λ p. total f (h (Item.Here p) ++ (gathered no_op (ops_at g p) ++ k (exit_at g p)))) (λ p. weight (node_at g p)) o.order each in
     let items_are = ap (λ z. total f (gathered h z)) o.are ∙ ap (total f) (laid_gathered h no_op k is g o.order) ∙ total_gathered f (λ p. h (Item.Here p) ++ (gathered no_op (ops_at g p) ++ k (exit_at g p))) o.order in
     exits ∙ sym (items_are ∙ all ∙ ordered)
@@ -164,7 +164,7 @@ ordering_is_lin g items graph places o =
     record {
       nodes_once = subst NoneTwice (sym here) o.ordered.once;
       nodes = all_of (λ n. In n (gathered here_nodes items)) (gathered item_nodes items)
-      (λ n i. subst (In n) (sym here) (o.ordered.every n (all_in (λ q. q < length g.nodes) (gathered item_nodes items) below n i)));
+          (λ n i. subst (In n) (sym here) (o.ordered.every n (all_in (λ q. q < length g.nodes) (gathered item_nodes items) below n i)));
       labels = still_once (labels_in g) (gathered item_labels items) (labels_summed g items o) graph.labels;
       places = subst (λ z. AllByRecursion IsPlace (gathered item_locations z)) (sym o.are) (places_laid g places o.order);
     }

@@ -1,8 +1,8 @@
 pub mod Lists
-mod Named
-mod Following
+pub mod Named
+pub mod Following
 mod PlacingSteps
-mod Laying
+pub mod Laying
 mod Seeking
 mod Preserved
 pub mod Numbers

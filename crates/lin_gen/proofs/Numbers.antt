@@ -141,7 +141,7 @@ in_times n ns le = ⊎_elim (λ i. i) (λ out. absurd (none (times_out n ns out)
     none : times n ns ≡ 0 → 1 ≤ times n ns → ⊥
     none e le = omega arith
 
-once_times : (ns : List ℕ) → NoneTwice ns → (n : ℕ) → times n ns ≤ 1
+pub once_times : (ns : List ℕ) → NoneTwice ns → (n : ℕ) → times n ns ≤ 1
 once_times [] once n = omega arith
 once_times (m ∷ ns) once n = by (eqb_tells m n) (once_times ns once.1 n)
   where

@@ -1,8 +1,7 @@
 -- A certificate of a graph: a fact for each node, and a condition at each node that speaks of its own fact and of those of the
 -- nodes that come next alone. What holds of all paths follows from it. It is carried while nodes are added.
-use Rattle.std.proofs.Common.{◌≡◌, ◌≢◌, ℕ, suc, ◌+◌, ◌<◌, ◌≤◌, List, [], ◌∷◌, ◌++◌, length, Bool, true, false, Option, Some, None, ◌⊎◌, inl, inr, refl, sym, ap, ◌∙◌, subst, ⊎_elim, eq-eqb, ne_eqb, if◌then◌else◌, arith, length-append, length-set}
-use Rattle.std.specs.Prelude.{slice_get, slice_set, nat_eq}
-use Rattle.std.proofs.Math.Nat.{le_trans}
+use Rattle.std.proofs.Common.{◌≡◌, ◌≢◌, ℕ, suc, ◌<◌, ◌≤◌, List, [], ◌∷◌, ◌++◌, length, Bool, true, false, Option, Some, None, ◌⊎◌, inl, inr, refl, sym, ap, ◌∙◌, subst, ⊎_elim, eq-eqb, ne_eqb, if◌then◌else◌, arith, length-append}
+use Rattle.std.specs.Prelude.{slice_get, nat_eq}
 use Rattle.cerco_base.specs.declared.events.Label.{Label}
 use Rattle.cerco_traces.specs.LabelledGraphs.{In}
 use Rattle.cerco_middle.specs.declared.operators.Held.{Held}
@@ -12,8 +11,7 @@ use Rattle.cerco_middle.specs.declared.rtlabs.RtNode.{RtNode}
 use Rattle.cerco_middle.specs.Calls.{Argument}
 use Rattle.cerco_middle.specs.RtLabs.Graphs.{next_nodes}
 use Rattle.cerco_middle.specs.RtLabs.WellFormed.{is_call, and_argument}
-use Rattle.rtlabs_gen.specs.Translation.{added}
-use Rattle.rtlabs_gen.proofs.Lists.{some_node, get_new, get_within, get_added, get_set}
+use Rattle.rtlabs_gen.proofs.Lists.{get_within, get_added}
 
 -- what is known before a node
 pub record Fact : Type 0 where

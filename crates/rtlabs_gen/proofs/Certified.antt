@@ -1,5 +1,5 @@
 -- The graphs of all statements have a certificate: it is carried through each part that is added.
-use Rattle.std.proofs.Common.{◌≡◌, ◌≢◌, ℕ, zero, suc, ◌+◌, ◌<◌, ◌≤◌, List, [], ◌∷◌, ◌++◌, length, Bool, true, false, Option, Some, None, ◌⊎◌, inl, inr, refl, sym, ap, ◌∙◌, subst, ⊎_elim, add-one, arith, append_assoc, append-nil, length-append, length-set}
+use Rattle.std.proofs.Common.{◌≡◌, ◌≢◌, ℕ, suc, ◌+◌, ◌<◌, ◌≤◌, List, [], ◌∷◌, ◌++◌, length, true, false, Option, Some, None, inl, inr, refl, sym, ap, ◌∙◌, subst, ⊎_elim, add-one, arith, append_assoc, append-nil, length-append, length-set}
 use Rattle.std.specs.Prelude.{slice_get, slice_set}
 use Rattle.std.proofs.Math.Nat.{le_trans}
 use Rattle.cerco_base.specs.declared.events.Label.{Label}
@@ -16,9 +16,9 @@ use Rattle.cerco_middle.specs.Cminor.WellFormed.{OfStmts, OfAll}
 use Rattle.cerco_middle.specs.RtLabs.Graphs.{next_nodes}
 use Rattle.rtlabs_gen.specs.declared.exits.Exits.{Exits}
 use Rattle.rtlabs_gen.specs.Translation.{Part, added, add_expr, add_arguments, add_cond, add_cond_if_any, add_taking, add_call, add_return, in_loop, exits_at, add_stmt, add_stmts, add_end, add_body}
-use Rattle.rtlabs_gen.proofs.Lists.{some_node, no_node, get_front, get_new, get_within, get_added, get_set, get_set_same, get_set_other}
-use Rattle.rtlabs_gen.proofs.Grown.{and_on, new_at, one_more, cond_extends, cond_extends_if_any, stmt_extends, closes}
-use Rattle.rtlabs_gen.proofs.Certificate.{Fact, Facts, plain, noted, noted_same, noted_other, needs, leaves, Orderly, Quiet, IsLabelOp, IsOwnedResult, Falls, Arms, Tied, left_with, Edge, Good, Sure, false_true, falls_any, good_on, push_sure, There, CameAt, Came, Adds, IsCertified}
+use Rattle.rtlabs_gen.proofs.Lists.{no_node, get_front, get_new, get_added, get_set}
+use Rattle.rtlabs_gen.proofs.Grown.{and_on, new_at, cond_extends, cond_extends_if_any, stmt_extends, closes}
+use Rattle.rtlabs_gen.proofs.Certificate.{Fact, Facts, plain, noted, noted_same, noted_other, needs, leaves, Orderly, Quiet, IsOwnedResult, Arms, Tied, left_with, Edge, Good, Sure, false_true, falls_any, good_on, push_sure, There, CameAt, Came, Adds, IsCertified}
 
 -- the arguments that are handed over for parameters that are held so, from a first argument byte on
 abbrev pub handed : List Held → ℕ → List CmExpr → List Argument

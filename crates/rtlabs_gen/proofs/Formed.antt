@@ -1,5 +1,5 @@
 -- What a well formed program of Cminor becomes is well formed.
-use Rattle.std.proofs.Common.{◌≡◌, ℕ, zero, suc, ◌+◌, ◌<◌, ◌≤◌, List, [], ◌∷◌, ◌++◌, length, map, take, Option, Some, None, refl, sym, ap, ◌∙◌, subst, arith}
+use Rattle.std.proofs.Common.{◌≡◌, ℕ, ◌+◌, ◌<◌, ◌≤◌, List, [], ◌∷◌, length, Option, Some, None, refl, sym, ap, ◌∙◌, subst, arith}
 use Rattle.std.specs.Prelude.{slice_get, Contains}
 use Rattle.std.proofs.lemmas.List.{length-map, length-take}
 use Rattle.cerco_base.specs.CallOrder.{Called}
@@ -14,7 +14,7 @@ use Rattle.cerco_middle.specs.Cminor.Sums.{parameters_at, result_at}
 use Rattle.cerco_middle.specs.Cminor.WellFormed as cm
 use Rattle.cerco_middle.specs.RtLabs.Graphs.{RtFunction, callees_at, callees_of}
 use Rattle.cerco_middle.specs.RtLabs.WellFormed as rt
-use Rattle.rtlabs_gen.specs.Translation.{add_body, translated_function, translated}
+use Rattle.rtlabs_gen.specs.Translation.{translated_function, translated}
 use Rattle.rtlabs_gen.proofs.Certificate.{IsCertified}
 use Rattle.rtlabs_gen.proofs.Certified.{handed, function_certified}
 use Rattle.rtlabs_gen.proofs.LabelCounts.{labels_numbered}

@@ -1,5 +1,5 @@
 -- Each label is in the graphs as often as in the program that they came from.
-use Rattle.std.proofs.Common.{◌≡◌, ℕ, suc, ◌+◌, ◌<◌, ◌≤◌, List, [], ◌∷◌, ◌++◌, map, Bool, true, false, Option, Some, None, refl, sym, ap, ◌∙◌, if◌then◌else◌, arith}
+use Rattle.std.proofs.Common.{◌≡◌, ℕ, suc, ◌+◌, List, [], ◌∷◌, ◌++◌, map, Bool, true, false, Option, Some, None, refl, ◌∙◌, if◌then◌else◌, arith}
 use Rattle.std.specs.Prelude.{slice_get, nat_eq}
 use Rattle.cerco_base.specs.declared.events.Label.{Label}
 use Rattle.cerco_middle.specs.declared.operators.Held.{Held}
@@ -15,7 +15,7 @@ use Rattle.cerco_middle.specs.RtLabs.Graphs.{label_at, labels_of_nodes}
 use Rattle.cerco_middle.specs.RtLabs.Graphs as rt
 use Rattle.cerco_middle.specs.RtLabs.Sums.{sum_of_nodes}
 use Rattle.rtlabs_gen.specs.Translation.{add_body, translated_function}
-use Rattle.rtlabs_gen.proofs.Outline.{bare_op, goes, stops, expr_nodes, arguments_nodes, cond_nodes, cond_nodes_if_any, taking_nodes, call_nodes, return_nodes, stmt_nodes, stmts_nodes, end_nodes, body_nodes}
+use Rattle.rtlabs_gen.proofs.Outline.{bare_op, goes, expr_nodes, arguments_nodes, cond_nodes, cond_nodes_if_any, taking_nodes, call_nodes, return_nodes, stmt_nodes, stmts_nodes, end_nodes}
 use Rattle.rtlabs_gen.proofs.Lengths.{sum-append, sum_of_body}
 
 -- whether it is this label, as a number

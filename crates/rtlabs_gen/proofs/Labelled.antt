@@ -1,7 +1,7 @@
 -- A graph with a certificate is soundly labelled.
-use Rattle.std.proofs.Common.{◌≡◌, ℕ, suc, ◌<◌, List, [], ◌∷◌, length, true, Option, Some, None, ◌⊎◌, inl, inr, refl, sym, ap, ◌∙◌, subst, arith}
+use Rattle.std.proofs.Common.{◌≡◌, ℕ, suc, ◌<◌, List, [], ◌∷◌, length, true, Option, Some, None, inl, inr, refl, sym, ap, ◌∙◌, subst, arith}
 use Rattle.std.specs.Prelude.{slice_get, option_map}
-use Rattle.cerco_traces.specs.LabelledGraphs.{NodeKind, LabelNode, BranchNode, CallNode, PlainNode, FlowGraph, In, LeadsTo, IsLabelNode, UnlabelledPath, edge, longer, SoundlyLabelled}
+use Rattle.cerco_traces.specs.LabelledGraphs.{NodeKind, BranchNode, CallNode, FlowGraph, In, LeadsTo, IsLabelNode, UnlabelledPath, edge, longer, SoundlyLabelled}
 use Rattle.cerco_middle.specs.declared.operators.Held.{Held}
 use Rattle.cerco_middle.specs.declared.rtlabs.RtOp.{RtOp}
 use Rattle.cerco_middle.specs.declared.rtlabs.RtOp.TheVariants as o
@@ -9,7 +9,7 @@ use Rattle.cerco_middle.specs.declared.rtlabs.RtNode.{RtNode}
 use Rattle.cerco_middle.specs.Calls.{Argument}
 use Rattle.cerco_middle.specs.RtLabs.Graphs.{RtFunction, kind_of, node_kind, flow_graph, next_nodes}
 use Rattle.rtlabs_gen.proofs.Lists.{get_within, node_below}
-use Rattle.rtlabs_gen.proofs.Certificate.{Fact, Facts, IsLabelOp, Falls, Arms, Tied, Sure, IsCertified}
+use Rattle.rtlabs_gen.proofs.Certificate.{Facts, IsLabelOp, Falls, Arms, Tied, IsCertified}
 
 -- ---- which node has a kind
 

@@ -1,13 +1,12 @@
 -- With every jump long, the code of the graphs is as long as that of the program that they came from.
-use Rattle.std.proofs.Common.{◌≡◌, ℕ, suc, ◌+◌, ◌*◌, List, [], ◌∷◌, ◌++◌, map, Option, Some, None, refl, sym, ap, ap₂, ◌∙◌, arith}
+use Rattle.std.proofs.Common.{◌≡◌, ℕ, ◌+◌, List, [], ◌∷◌, ◌++◌, map, Option, Some, None, refl, sym, ap, ap₂, ◌∙◌, arith}
 use Rattle.std.specs.Prelude.{slice_get}
 use Rattle.cerco_base.specs.declared.events.Label.{Label}
 use Rattle.cerco_middle.specs.declared.operators.Held.{Held}
 use Rattle.cerco_middle.specs.declared.rtlabs.RtOp.{RtOp}
 use Rattle.cerco_middle.specs.declared.rtlabs.RtOp.TheVariants as o
 use Rattle.cerco_middle.specs.declared.rtlabs.RtNode.{RtNode}
-use Rattle.cerco_middle.specs.Operators.{held_bytes, word_bytes}
-use Rattle.cerco_middle.specs.Calls.{variable_held}
+use Rattle.cerco_middle.specs.Operators.{held_bytes}
 use Rattle.cerco_middle.specs.Cminor.Trees.{CmExpr, Const, Var, Load, Neg, Complement, Narrow, Bin, Shl, Shr, CmCond, Test, Not, Both, Either, CmStmt, Seq, Set, Store, ReadPort, WritePort, Call, If, Loop, Do, Break, Continue, Return, CmStmts, NoStmts, Then, CmFunction, Cminor}
 use Rattle.cerco_middle.specs.Cminor.Sums.{parameters_at, result_at, expr_length, cond_length, cond_length_if_any, arguments_length, taking_length, return_length_of, stmt_length, stmts_length, end_length}
 use Rattle.cerco_middle.specs.Cminor.Sums as cm

@@ -16,3 +16,4 @@ pub mod NodeFits
 pub mod Paths
 pub mod Formed
 pub mod Promised
+mod Examples

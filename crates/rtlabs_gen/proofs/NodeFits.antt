@@ -1,6 +1,6 @@
 -- What a well formed graph asks of each of its nodes alone: the variables and functions that it names are there, it returns as its function
 -- does, its argument has the first bytes, and paths go on after it.
-use Rattle.std.proofs.Common.{◌≡◌, ℕ, zero, suc, ◌+◌, ◌<◌, ◌≤◌, List, [], ◌∷◌, ◌++◌, map, Option, Some, None, ◌⊎◌, inl, inr, refl, sym, ap, ◌∙◌, subst, ⊎_elim, arith}
+use Rattle.std.proofs.Common.{◌≡◌, ℕ, zero, suc, ◌+◌, ◌<◌, ◌≤◌, List, [], ◌∷◌, ◌++◌, map, Option, Some, None, ◌⊎◌, inl, inr, refl, sym, subst, ⊎_elim, arith}
 use Rattle.std.specs.Prelude.{slice_get, option_map, Contains}
 use Rattle.std.proofs.lemmas.List.Elements.{Contains-append_left, Contains-append_right, Contains-append_cases, Contains-push, Contains-push_cases}
 use Rattle.cerco_base.specs.declared.events.Label.{Label}
@@ -18,7 +18,7 @@ use Rattle.cerco_middle.specs.RtLabs.Graphs.{variables_at, callee_at, callees_at
 use Rattle.cerco_middle.specs.RtLabs.WellFormed.{GoesOn, ReturnsAs, IsWithinTwelve}
 use Rattle.rtlabs_gen.specs.Translation.{add_body}
 use Rattle.rtlabs_gen.proofs.Lists.{some_node, no_node}
-use Rattle.rtlabs_gen.proofs.Outline.{bare_op, bare, goes, stops, expr_nodes, arguments_nodes, cond_nodes, cond_nodes_if_any, taking_nodes, call_nodes, return_nodes, stmt_nodes, stmts_nodes, end_nodes, body_nodes, body_outline}
+use Rattle.rtlabs_gen.proofs.Outline.{bare_op, bare, goes, expr_nodes, arguments_nodes, cond_nodes, cond_nodes_if_any, taking_nodes, return_nodes, stmt_nodes, stmts_nodes, end_nodes, body_nodes, body_outline}
 
 -- ---- elements of lists
 

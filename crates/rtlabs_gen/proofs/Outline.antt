@@ -12,7 +12,7 @@ use Rattle.cerco_middle.specs.Operators.{held_bytes}
 use Rattle.cerco_middle.specs.Cminor.Trees.{CmExpr, Const, Var, Load, Neg, Complement, Narrow, Bin, Shl, Shr, CmCond, Test, Not, Both, Either, CmStmt, Seq, Set, Store, ReadPort, WritePort, Call, If, Loop, Do, Break, Continue, Return, CmStmts, NoStmts, Then, CmFunction}
 use Rattle.cerco_middle.specs.Cminor.Sums.{parameters_at, result_at}
 use Rattle.rtlabs_gen.specs.declared.exits.Exits.{Exits}
-use Rattle.rtlabs_gen.specs.Translation.{Part, added, add_expr, add_arguments, add_cond, add_cond_if_any, add_taking, add_call, add_return, in_loop, exits_at, add_stmt, add_stmts, add_end, add_body}
+use Rattle.rtlabs_gen.specs.Translation.{Part, added, add_expr, add_arguments, add_cond, add_cond_if_any, add_taking, add_return, in_loop, exits_at, add_stmt, add_stmts, add_end, add_body}
 
 -- ---- nodes without the numbers in them
 

@@ -1,11 +1,10 @@
 -- What holds along the paths of a graph with a certificate: calls are handed what they take, results are read after their calls, and
 -- temporaries are written before they are used.
-use Rattle.std.proofs.Common.{◌≡◌, ℕ, zero, suc, ◌+◌, ◌<◌, ◌≤◌, List, [], ◌∷◌, ◌++◌, length, map, Bool, true, false, Option, Some, None, ◌⊎◌, inl, inr, refl, sym, ap, ◌∙◌, subst, ⊎_elim, if◌then◌else◌, arith}
+use Rattle.std.proofs.Common.{◌≡◌, ℕ, zero, suc, ◌<◌, List, [], ◌∷◌, ◌++◌, map, true, false, Option, Some, None, ◌⊎◌, inl, inr, refl, sym, ap, ◌∙◌, subst, ⊎_elim, arith}
 use Rattle.std.specs.Prelude.{slice_get, option_map, Contains, IsPermutation}
 use Rattle.std.proofs.lemmas.List.Elements.{Contains-append_left, Contains-push}
 use Rattle.std.proofs.lemmas.List.Sorted.{IsPermutation-refl}
 use Rattle.std.proofs.lemmas.Option.{slice_get-map}
-use Rattle.cerco_base.specs.declared.events.Label.{Label}
 use Rattle.cerco_traces.specs.LabelledGraphs.{In}
 use Rattle.cerco_middle.specs.declared.operators.Held.{Held}
 use Rattle.cerco_middle.specs.declared.rtlabs.RtOp.{RtOp}
@@ -13,14 +12,14 @@ use Rattle.cerco_middle.specs.declared.rtlabs.RtOp.TheVariants as o
 use Rattle.cerco_middle.specs.declared.rtlabs.RtNode.{RtNode}
 use Rattle.cerco_middle.specs.Calls.{Argument, arguments_from}
 use Rattle.cerco_middle.specs.Cminor.Trees.{CmFunction, Cminor, held_parameters}
-use Rattle.cerco_middle.specs.RtLabs.Graphs.{RtFunction, RtLabs, parameters_of, next_nodes, used_by, written_by}
-use Rattle.cerco_middle.specs.RtLabs.WellFormed.{OfNodes, is_call, and_argument, HandsOver, TakesExactly, ArgumentsMeetCalls, CallFreePath, edge, longer, TakesOne, IsTaken, ArgumentsAreTaken, IsAfterCall, HasCame, ResultsFollowCalls, Unwritten, WrittenBeforeUse}
+use Rattle.cerco_middle.specs.RtLabs.Graphs.{RtFunction, parameters_of, next_nodes, used_by, written_by}
+use Rattle.cerco_middle.specs.RtLabs.WellFormed.{OfNodes, is_call, TakesExactly, ArgumentsMeetCalls, CallFreePath, edge, longer, TakesOne, IsTaken, ArgumentsAreTaken, HasCame, ResultsFollowCalls, WrittenBeforeUse}
 use Rattle.cerco_middle.proofs.Each.{AllOf}
 use Rattle.cerco_middle.proofs.RtLabsPaths.{PassesOn, handed_over_as, written_on_the_way}
 use Rattle.cerco_middle.proofs.RtLabsPaths as path
 use Rattle.rtlabs_gen.specs.Translation.{translated_function, translated}
 use Rattle.rtlabs_gen.proofs.Lists.{some_node}
-use Rattle.rtlabs_gen.proofs.Certificate.{Fact, Facts, needs, leaves, Orderly, Quiet, IsOwnedResult, left_with, Edge, Sure, CameAt, IsCertified}
+use Rattle.rtlabs_gen.proofs.Certificate.{needs, leaves, Orderly, Quiet, left_with, IsCertified}
 
 -- ---- functions of the program and of what it becomes
 

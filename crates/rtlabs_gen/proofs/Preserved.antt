@@ -10,8 +10,7 @@ use Rattle.cerco_traces.proofs.Simulation.{prefix_refl, Simulates, simulation_pr
 use Rattle.cerco_middle.specs.declared.rtlabs.RtNode.{RtNode}
 use Rattle.cerco_middle.specs.Calls.{all_zero, is_over}
 use Rattle.cerco_middle.specs.Cminor.Trees.{CmFunction, Cminor}
-use Rattle.cerco_middle.specs.Cminor.Meaning.{Work, Done, Execute, ExecuteAll, Pass, Take, Check, Step, Turn, Again, CmCall, CmState, work_due, due, main_call, step, cminor}
-use Rattle.cerco_middle.specs.RtLabs.Graphs.{RtFunction}
+use Rattle.cerco_middle.specs.Cminor.Meaning.{Work, Done, Execute, ExecuteAll, Pass, Take, Check, Step, Turn, Again, CmCall, work_due, due, main_call, step, cminor}
 use Rattle.cerco_middle.specs.RtLabs.Meaning.{RtCall, RtState, node_due, rtlabs}
 use Rattle.cerco_middle.specs.RtLabs.Meaning as graphs
 use Rattle.rtlabs_gen.specs.Stands.{FunctionStands}

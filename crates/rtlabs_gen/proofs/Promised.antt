@@ -1,6 +1,7 @@
 -- What is promised of a program's graphs, from what was proved of the graph of each function.
-use Rattle.std.proofs.Common.{◌≡◌, ℕ, ◌≤◌, List, length, map, Option, Some, None, refl, sym, ap, ◌∙◌, subst}
-use Rattle.std.specs.Prelude.{slice_get, Result, Ok, Err, IfOk}
+use Rattle.std.proofs.Common.{◌≡◌, Some, refl, sym, ◌∙◌, subst}
+use Rattle.std.specs.Prelude.{Result, IfOk}
+use Rattle.std.proofs.lemmas.Result.{IfOk-weaker}
 use Rattle.std.proofs.lemmas.List.{length-map}
 use Rattle.cerco_traces.specs.LabelledGraphs.{SoundlyLabelled}
 use Rattle.cerco_middle.specs.Cminor.Trees.{CmFunction, Cminor}
@@ -43,5 +44,4 @@ translation_needs p = of_both p _ (need_is_less p.functions)
 
 -- what holds of the definition's graphs holds of those that a call answers
 pub of_answer : (p : Cminor) (answer : Result code.RtLabs NoMemory) (Holds : RtLabs → Type 0) → Holds (translated p) → IfOk answer (λ r. rtlabs_of r ≡ translated p) → IfOk answer (λ r. Holds (rtlabs_of r))
-of_answer p (Ok r) Holds holds is = subst Holds (sym is) holds
-of_answer p (Err e) Holds holds is = is
+of_answer p answer Holds holds is = IfOk-weaker answer (λ r. rtlabs_of r ≡ translated p) (λ r. Holds (rtlabs_of r)) (λ r same. subst Holds (sym same) holds) is

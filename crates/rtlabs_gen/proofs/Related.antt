@@ -1,8 +1,7 @@
 -- Which state of a program of RTLabs is that of a state of Cminor: each open call is at a node from which what is left to do is done.
-use Rattle.std.proofs.Common.{◌≡◌, ℕ, suc, ◌≤◌, List, [], ◌∷◌, length, Option, Some, None, map, refl, ap}
+use Rattle.std.proofs.Common.{◌≡◌, ℕ, suc, ◌≤◌, List, [], ◌∷◌, length, Option, map, refl, ap}
 use Rattle.cerco_traces.specs.Systems.{Run}
 use Rattle.cerco_base.specs.declared.events.Label.{Label}
-use Rattle.cerco_middle.specs.declared.operators.Held.{Held}
 use Rattle.cerco_middle.specs.declared.rtlabs.RtOp.TheVariants as o
 use Rattle.cerco_middle.specs.declared.rtlabs.RtNode.{RtNode}
 use Rattle.cerco_middle.specs.Calls.{Values, all_zero}

@@ -15,7 +15,7 @@ use Rattle.cerco_middle.specs.declared.rtlabs.RtOp.{RtOp}
 use Rattle.cerco_middle.specs.declared.rtlabs.RtOp.TheVariants as o
 use Rattle.cerco_middle.specs.declared.rtlabs.RtNode.{RtNode}
 use Rattle.cerco_middle.specs.Operators.{held_bytes, as_word, kept, held_in, held_addresses, low_byte, branch}
-use Rattle.cerco_middle.specs.Calls.{Values, all_zero, handed_over, first_variables, assigned, returned}
+use Rattle.cerco_middle.specs.Calls.{Values, all_zero, handed_over, assigned, returned}
 use Rattle.cerco_middle.specs.Cminor.Trees.{CmExpr, CmCond, Test, Not, Both, Either, CmStmt, Seq, Set, Store, ReadPort, WritePort, Call, If, Loop, Do, Break, Continue, Return, CmStmts, NoStmts, Then, CmFunction, Cminor, held_parameters}
 use Rattle.cerco_middle.specs.Cminor.Sums.{parameters_at, result_at}
 use Rattle.cerco_middle.specs.Cminor.Meaning.{value, values, reads, all_reads, Work, Done, Execute, ExecuteAll, Pass, Take, Check, Step, Turn, Again, broken, continued, CmCall, CmState, left_to_do, taken, called, returns, stmt_step, all_step, check_step, turn_step, work_step, step, stmt_touched, check_touched, work_touched, cminor}
@@ -24,7 +24,7 @@ use Rattle.cerco_middle.specs.RtLabs.Meaning.{RtCall, RtState, at_node, op_step,
 use Rattle.cerco_middle.specs.RtLabs.Meaning as graphs
 use Rattle.rtlabs_gen.specs.Stands.{At, AtLast, ExprStands, ArgumentsStand, CondStandsIfAny, TakingStands, CallStands, ReturnStands, EndStands, FunctionStands}
 use Rattle.rtlabs_gen.proofs.Evaluated.{one_node, Gives, expr_runs}
-use Rattle.rtlabs_gen.proofs.Related.{LoopStands, Leads, Link, function_of, program_of, Linked, AllLinked, calls_of, state_of, same_length, After}
+use Rattle.rtlabs_gen.proofs.Related.{Leads, Link, function_of, program_of, AllLinked, calls_of, state_of, same_length, After}
 
 -- ---- breaks and continues
 

@@ -95,6 +95,23 @@ abbrev pub add_return : List RtNode → Option CmExpr → ℕ → Part
 add_return ns None end = nothing ns end
 add_return ns (Some e) end = before (added ns (o.ReturnValue 0) None) (λ ms m. add_expr ms e 0 m)
 
+-- a condition with the labels of its two arms, which go on to these nodes
+abbrev pub add_arms : List RtNode → CmCond → Label → ℕ → Label → ℕ → Part
+add_arms ns c on_true j on_false n = before (added ns (o.Label on_false) (Some n)) (λ ks k. before (added ks (o.Label on_true) (Some j)) (λ is i. add_cond is c i k))
+
+-- the exit label of a loop
+abbrev pub loop_exit : List RtNode → Label → ℕ → Part
+loop_exit ns exit_label next = added ns (o.Label exit_label) (Some next)
+
+-- and the label before its body, which waits for the body
+abbrev pub loop_turn : List RtNode → Label → Label → ℕ → Part
+loop_turn ns body_label exit_label next = added (loop_exit ns exit_label next).nodes (o.Label body_label) None
+
+-- and its condition
+abbrev pub loop_test : List RtNode → Option CmCond → Label → Label → ℕ → Part
+loop_test ns c body_label exit_label next =
+    add_cond_if_any (loop_turn ns body_label exit_label next).nodes c (loop_turn ns body_label exit_label next).entry (loop_exit ns exit_label next).entry
+
 -- a part in which a label goes on to its entry, and which is gone into at another node
 abbrev pub closed : ℕ → Label → ℕ → Part → Part
 closed i l head part = record { nodes = slice_set part.nodes i (record { op = o.Label l; next = Some part.entry }); entry = head }
@@ -117,11 +134,11 @@ abbrev mutual
   add_stmt fs ns (WritePort e) next x = add_write_port ns e next
   add_stmt fs ns (Call target g es after) next x = add_call fs ns target g es after next
   add_stmt fs ns (If c on_true a on_false b) next x =
-      before (add_stmt fs ns b next x) (λ bs n. before (add_stmt fs bs a next x) (λ os j. before (added os (o.Label on_false) (Some n)) (λ ks k. before (added ks (o.Label on_true) (Some j)) (λ is i. add_cond is c i k))))
+      before (add_stmt fs ns b next x) (λ bs n. before (add_stmt fs bs a next x) (λ os j. add_arms os c on_true j on_false n))
   add_stmt fs ns (Loop c body_label body step exit_label) next x =
-      before (added ns (o.Label exit_label) (Some next)) (λ ks k. before (added ks (o.Label body_label) None) (λ is i. before (add_cond_if_any is c i k) (λ hs h. before (add_stmt fs hs step h (in_loop x k h)) (λ ss n. closed i body_label h (add_stmt fs ss body n (in_loop x k n))))))
+      before (loop_test ns c body_label exit_label next) (λ hs h. before (add_stmt fs hs step h (in_loop x (loop_exit ns exit_label next).entry h)) (λ ss n. closed (loop_turn ns body_label exit_label next).entry body_label h (add_stmt fs ss body n (in_loop x (loop_exit ns exit_label next).entry n))))
   add_stmt fs ns (Do body c repeat_label exit_label) next x =
-      before (added ns (o.Label exit_label) (Some next)) (λ ks k. before (added ks (o.Label repeat_label) None) (λ is i. before (add_cond is c i k) (λ hs h. closed_at_entry i repeat_label (add_stmt fs hs body h (in_loop x k h)))))
+      before (loop_test ns (Some c) repeat_label exit_label next) (λ hs h. closed_at_entry (loop_turn ns repeat_label exit_label next).entry repeat_label (add_stmt fs hs body h (in_loop x (loop_exit ns exit_label next).entry h)))
   add_stmt fs ns Break next x = nothing ns x.on_break
   add_stmt fs ns Continue next x = nothing ns x.on_continue
   add_stmt fs ns (Return e) next x = add_return ns e x.on_return

@@ -2,7 +2,7 @@
 
 /// The nodes to which the jumps in a statement lead.
 #[derive(Clone, Copy)]
-pub struct Exits {
+pub(crate) struct Exits {
     /// Where the innermost loop is left: its exit label.
     pub on_break: u32,
     /// Where the innermost loop goes on after its body.

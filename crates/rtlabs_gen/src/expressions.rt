@@ -170,10 +170,10 @@ pub(crate) fn add_condition(
             on_false: false_label,
             right,
         } => {
-            let second = add_condition(nodes, right, on_true, on_false)?;
-            let yes = add_node(nodes, RtOp::Label(*true_label), Some(on_true))?;
-            let no = add_node(nodes, RtOp::Label(*false_label), Some(second))?;
-            add_condition(nodes, left, yes, no)
+            let otherwise = add_condition(nodes, right, on_true, on_false)?;
+            let met = add_node(nodes, RtOp::Label(*true_label), Some(on_true))?;
+            let open = add_node(nodes, RtOp::Label(*false_label), Some(otherwise))?;
+            add_condition(nodes, left, met, open)
         }
     }
 }

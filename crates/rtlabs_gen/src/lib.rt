@@ -15,7 +15,7 @@ ghost use Rattle.rtlabs_gen.specs.Translation.{translated};
 ghost use Rattle.rtlabs_gen.specs.Promises.{AreSoundlyLabelled, KeepsProgram, NeedNoMore};
 
 mod calls;
-pub mod exits;
+mod exits;
 mod expressions;
 mod functions;
 mod graph;

@@ -1,5 +1,5 @@
 //! The graphs of statements.
-ghost use Rattle.std.specs.Prelude.{◌≡◌, IfOk, map, option_map};
+ghost use Rattle.std.specs.Prelude.{◌≡◌, IfOk, Some, map, option_map};
 ghost use Rattle.cerco_middle.specs.Code.Views.{expr_of, cond_of, stmt_of, stmts_of, function_of};
 ghost use Rattle.rtlabs_gen.specs.Translation as t;
 
@@ -7,7 +7,7 @@ use crate::calls::add_call;
 use crate::exits::Exits;
 use crate::expressions::{add_condition, add_expression};
 use crate::graph::{add_node, close_label};
-use cerco_base::NoMemory;
+use cerco_base::{Label, NoMemory};
 use cerco_middle::{CmCond, CmExpr, CmFunction, CmStmt, Held, RtNodes, RtOp};
 
 // Adds what puts a value into a variable.
@@ -89,20 +89,73 @@ fn add_return(nodes: &mut RtNodes, value: &Option<CmExpr>, end: u32) -> Result<u
     }
 }
 
-// Adds the condition of a loop. No condition is a true one.
-fn add_condition_if_any(
+// Adds a condition with the labels of its two arms, which begin at these nodes.
+fn add_arms(
+    nodes: &mut RtNodes,
+    condition: &CmCond,
+    on_true: Label,
+    first: u32,
+    on_false: Label,
+    second: u32,
+) -> Result<u32, NoMemory>
+    ensures nodes { IfOk result (λ n. nodes.new.items ≡ (t.add_arms nodes.old.items (cond_of condition.now) on_true first on_false second).nodes) }
+    ensures entry { IfOk result (λ n. n ≡ (t.add_arms nodes.old.items (cond_of condition.now) on_true first on_false second).entry) }
+{
+    let no = add_node(nodes, RtOp::Label(on_false), Some(second))?;
+    let yes = add_node(nodes, RtOp::Label(on_true), Some(first))?;
+    add_condition(nodes, condition, yes, no)
+}
+
+// The nodes of a loop that are there before its body.
+#[derive(Clone, Copy)]
+struct LoopStart {
+    // The exit label.
+    exit: u32,
+    // The label before the body.
+    turn: u32,
+    // Where the condition begins.
+    test: u32,
+}
+
+// Adds the labels and the condition of a loop. No condition is a true one.
+fn add_loop_start(
     nodes: &mut RtNodes,
     condition: &Option<CmCond>,
-    on_true: u32,
-    on_false: u32,
-) -> Result<u32, NoMemory>
-    ensures nodes { IfOk result (λ n. nodes.new.items ≡ (t.add_cond_if_any nodes.old.items (option_map cond_of condition.now) on_true on_false).nodes) }
-    ensures entry { IfOk result (λ n. n ≡ (t.add_cond_if_any nodes.old.items (option_map cond_of condition.now) on_true on_false).entry) }
+    body_label: Label,
+    exit_label: Label,
+    next: u32,
+) -> Result<LoopStart, NoMemory>
+    ensures nodes { IfOk result (λ s. nodes.new.items ≡ (t.loop_test nodes.old.items (option_map cond_of condition.now) body_label exit_label next).nodes) }
+    ensures exit { IfOk result (λ s. s.exit ≡ (t.loop_exit nodes.old.items exit_label next).entry) }
+    ensures turn { IfOk result (λ s. s.turn ≡ (t.loop_turn nodes.old.items body_label exit_label next).entry) }
+    ensures test { IfOk result (λ s. s.test ≡ (t.loop_test nodes.old.items (option_map cond_of condition.now) body_label exit_label next).entry) }
 {
-    match condition {
-        None => Ok(on_true),
-        Some(condition) => add_condition(nodes, condition, on_true, on_false),
-    }
+    let exit = add_node(nodes, RtOp::Label(exit_label), Some(next))?;
+    let turn = add_node(nodes, RtOp::Label(body_label), None)?;
+    let test = match condition {
+        None => turn,
+        Some(condition) => add_condition(nodes, condition, turn, exit)?,
+    };
+    Ok(LoopStart { exit, turn, test })
+}
+
+// Adds the labels and the condition of a loop with its condition after the body.
+fn add_do_start(
+    nodes: &mut RtNodes,
+    condition: &CmCond,
+    repeat_label: Label,
+    exit_label: Label,
+    next: u32,
+) -> Result<LoopStart, NoMemory>
+    ensures nodes { IfOk result (λ s. nodes.new.items ≡ (t.loop_test nodes.old.items (Some (cond_of condition.now)) repeat_label exit_label next).nodes) }
+    ensures exit { IfOk result (λ s. s.exit ≡ (t.loop_exit nodes.old.items exit_label next).entry) }
+    ensures turn { IfOk result (λ s. s.turn ≡ (t.loop_turn nodes.old.items repeat_label exit_label next).entry) }
+    ensures test { IfOk result (λ s. s.test ≡ (t.loop_test nodes.old.items (Some (cond_of condition.now)) repeat_label exit_label next).entry) }
+{
+    let exit = add_node(nodes, RtOp::Label(exit_label), Some(next))?;
+    let turn = add_node(nodes, RtOp::Label(repeat_label), None)?;
+    let test = add_condition(nodes, condition, turn, exit)?;
+    Ok(LoopStart { exit, turn, test })
 }
 
 // Adds a statement before the node `next`.
@@ -147,9 +200,7 @@ pub(crate) fn add_statement(
         } => {
             let second = add_statement(nodes, functions, false_branch, next, exits)?;
             let first = add_statement(nodes, functions, true_branch, next, exits)?;
-            let no = add_node(nodes, RtOp::Label(*on_false), Some(second))?;
-            let yes = add_node(nodes, RtOp::Label(*on_true), Some(first))?;
-            add_condition(nodes, condition, yes, no)
+            add_arms(nodes, condition, *on_true, first, *on_false, second)
         }
         CmStmt::Loop {
             condition,
@@ -158,13 +209,17 @@ pub(crate) fn add_statement(
             step,
             exit_label,
         } => {
-            let exit = add_node(nodes, RtOp::Label(*exit_label), Some(next))?;
-            let turn = add_node(nodes, RtOp::Label(*body_label), None)?;
-            let head = add_condition_if_any(nodes, condition, turn, exit)?;
-            let after = add_statement(nodes, functions, step, head, exits.in_loop(exit, head))?;
+            let LoopStart { exit, turn, test } = add_loop_start(
+                nodes,
+                condition,
+                *body_label,
+                *exit_label,
+                next,
+            )?;
+            let after = add_statement(nodes, functions, step, test, exits.in_loop(exit, test))?;
             let first = add_statement(nodes, functions, body, after, exits.in_loop(exit, after))?;
             close_label(nodes, turn, *body_label, first);
-            Ok(head)
+            Ok(test)
         }
         CmStmt::Do {
             body,
@@ -172,11 +227,15 @@ pub(crate) fn add_statement(
             repeat_label,
             exit_label,
         } => {
-            let exit = add_node(nodes, RtOp::Label(*exit_label), Some(next))?;
-            let again = add_node(nodes, RtOp::Label(*repeat_label), None)?;
-            let test = add_condition(nodes, condition, again, exit)?;
+            let LoopStart { exit, turn, test } = add_do_start(
+                nodes,
+                condition,
+                *repeat_label,
+                *exit_label,
+                next,
+            )?;
             let first = add_statement(nodes, functions, body, test, exits.in_loop(exit, test))?;
-            close_label(nodes, again, *repeat_label, first);
+            close_label(nodes, turn, *repeat_label, first);
             Ok(first)
         }
         CmStmt::Break => Ok(exits.on_break),
