@@ -29,9 +29,10 @@ fn copy_declared(x: &Declared) -> Result<Declared, NoMemory>
 fn copy_declaration(x: &Declaration) -> Result<Declaration, NoMemory>
     ensures { IfOk result (λ r. declaration_of r ≡ declaration_of x.now) }
 {
+    let lengths = x.lengths.clone()?;
     Ok(Declaration {
         declared: copy_declared(&x.declared)?,
-        lengths: x.lengths.clone()?,
+        lengths,
     })
 }
 
@@ -95,7 +96,7 @@ fn copy_global(x: &GlobalVariable) -> Result<GlobalVariable, NoMemory>
     })
 }
 
-// A copy of a parameter and the comma behind it.
+// A copy of a parameter and the comma after it.
 fn copy_earlier_parameter(x: &EarlierParameter) -> Result<EarlierParameter, NoMemory>
     ensures { IfOk result (λ r. earlier_parameter_of r ≡ earlier_parameter_of x.now) }
 {
@@ -184,7 +185,8 @@ fn copy_local_initialiser(alloc: Global, x: &LocalInitialiser) -> Result<LocalIn
     match x {
         LocalInitialiser::Nothing => Ok(LocalInitialiser::Nothing),
         LocalInitialiser::Value(equals, value) => {
-            Ok(LocalInitialiser::Value(*equals, copy_expr(alloc, value)?))
+            let value = copy_expr(alloc, value)?;
+            Ok(LocalInitialiser::Value(*equals, Box::into_inner(value)))
         }
     }
 }

@@ -1,14 +1,31 @@
 //! The labels of functions.
-ghost use Rattle.std.specs.Prelude.{◌≡◌, ◌++◌, map, IfOk};
+ghost use Rattle.std.specs.Prelude.{◌≡◌, ◌++◌, ◌∷◌, map, IfOk};
 ghost use Rattle.std.specs.List.{flat_map};
-ghost use Rattle.clight_syntax.specs.Code.TypedViews.{function_of};
-ghost use Rattle.clight_syntax.specs.Labelling.{function_without, function_points};
+ghost use Rattle.clight_syntax.specs.Code.TypedViews.{function_of, stmts_of};
+ghost use Rattle.clight_syntax.specs.Labelling.{function_without, function_points, stmts_without, stmts_points, point};
+ghost use Rattle.clight_syntax.specs.declared.points.Piece.TheVariants as P;
 
 use crate::marker::Marker;
+use crate::parts::Part;
 use crate::statements::label_stmts;
 use cerco_base::{Label, NoMemory};
-use clight_syntax::typed::Function;
+use clight_syntax::typed::{Function, Stmt};
 use std::alloc::Global;
+
+// Gives the start of a function, after the place of its `{`, and its statements their labels.
+fn label_start(
+    alloc: Global,
+    at: u32,
+    body: Vec<Stmt<()>>,
+    marker: &mut Marker,
+) -> Result<(Label, Vec<Stmt<Label>>), NoMemory>
+    ensures alone { IfOk result (λ r. stmts_without (stmts_of r.1.items) ≡ stmts_of body.items) }
+    ensures points { IfOk result (λ r. marker.new.points ≡ marker.old.points ++ point at (P.After r.0) ∷ stmts_points (stmts_of r.1.items)) }
+{
+    let label = marker.give(at, Part::After)?;
+    let body = label_stmts(alloc, body, marker)?;
+    Ok((label, body))
+}
 
 // Gives a function its labels.
 fn label_function(
@@ -30,8 +47,7 @@ fn label_function(
         body,
         right,
     } = function;
-    let label = marker.add_after(left.to)?;
-    let body = label_stmts(alloc, body, marker)?;
+    let (label, body) = label_start(alloc, left.to, body, marker)?;
     Ok(Function {
         header,
         result: ty,

@@ -2,8 +2,10 @@
 ghost use Rattle.std.specs.Prelude.{◌≡◌, ◌++◌, ◌∷◌, [], ◌+◌, length, IfOk, OnOk};
 ghost use Rattle.clight_syntax.specs.Annotations.{labels_of, labels_in, AreNumberedFrom, AreNumberedInOrder};
 ghost use Rattle.clight_syntax.specs.Labelling.{point};
+ghost use Rattle.cost_labels.specs.Code.Parts.{piece_of};
 ghost use Rattle.clight_syntax.specs.declared.points.Piece.TheVariants as P;
 
+use crate::parts::Part;
 use cerco_base::{Label, NoMemory};
 use clight_syntax::{Piece, Point, Points};
 use std::alloc::Global;
@@ -67,52 +69,16 @@ impl Marker {
         Ok(())
     }
 
-    /// Gives a label behind a place.
-    pub fn add_after(&mut self, at: u32) -> Result<Label, NoMemory>
-        ensures { IfOk result (λ label. self.new.points ≡ self.old.points ++ point at (P.After label) ∷ []) }
+    /// Gives the next label to a part of the program that begins or ends here.
+    pub fn give(&mut self, at: u32, part: Part) -> Result<Label, NoMemory>
+        ensures { IfOk result (λ label. self.new.points ≡ self.old.points ++ point at (piece_of part label) ∷ []) }
     {
         let label = self.next()?;
-        self.add(at, Piece::After(label))?;
+        self.add(at, part.piece(label))?;
         Ok(label)
     }
 
-    /// Gives the label of an arm or a body that begins here.
-    pub fn open_arm(&mut self, at: u32) -> Result<Label, NoMemory>
-        ensures { IfOk result (λ label. self.new.points ≡ self.old.points ++ point at (P.ArmOpen label) ∷ []) }
-    {
-        let label = self.next()?;
-        self.add(at, Piece::ArmOpen(label))?;
-        Ok(label)
-    }
-
-    /// Gives the label of the missing arm of an `if` that ends here.
-    pub fn close_only_arm(&mut self, at: u32) -> Result<Label, NoMemory>
-        ensures { IfOk result (λ label. self.new.points ≡ self.old.points ++ point at (P.ThenClose label) ∷ []) }
-    {
-        let label = self.next()?;
-        self.add(at, Piece::ThenClose(label))?;
-        Ok(label)
-    }
-
-    /// Gives the label behind a loop whose body ends here.
-    pub fn close_body(&mut self, at: u32) -> Result<Label, NoMemory>
-        ensures { IfOk result (λ label. self.new.points ≡ self.old.points ++ point at (P.BodyClose label) ∷ []) }
-    {
-        let label = self.next()?;
-        self.add(at, Piece::BodyClose(label))?;
-        Ok(label)
-    }
-
-    /// Gives the label of the way back of a `do` whose condition ends here.
-    pub fn repeat(&mut self, at: u32) -> Result<Label, NoMemory>
-        ensures { IfOk result (λ label. self.new.points ≡ self.old.points ++ point at (P.CondRepeat label) ∷ []) }
-    {
-        let label = self.next()?;
-        self.add(at, Piece::CondRepeat(label))?;
-        Ok(label)
-    }
-
-    /// Gives the labels behind a left operand that ends here: where it is true, and where it is false.
+    /// Gives the labels after a left operand that ends here: where it is true, and where it is false.
     pub fn close_operand(&mut self, at: u32) -> Result<(Label, Label), NoMemory>
         ensures { IfOk result (λ labels. self.new.points ≡ self.old.points ++ point at (P.CondBoth labels.0 labels.1) ∷ []) }
     {

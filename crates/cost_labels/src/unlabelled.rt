@@ -3,6 +3,7 @@ ghost use Rattle.std.specs.Prelude.{◌≡◌, map, option_map, IfOk};
 ghost use Rattle.clight_syntax.specs.Code.TypedViews.{cond_of, test_of, for_head_of, stmt_of, stmts_of, function_of};
 ghost use Rattle.clight_syntax.specs.Labelling.{cond_without, test_without, head_without, stmt_without, stmts_without, function_without};
 
+use crate::boxes::{boxed, unboxed};
 use crate::copies::{
     copy_assignment, copy_call, copy_expr, copy_optional_assignment, copy_optional_expr,
 };
@@ -12,25 +13,31 @@ use clight_syntax::typed::{Cond, ForHead, Function, Stmt, Test};
 use std::alloc::Global;
 
 // A condition without its labels.
-fn cond_alone(alloc: Global, c: &Cond<Label>) -> Result<Cond<()>, NoMemory>
-    ensures { IfOk result (λ r. cond_of r ≡ cond_without (cond_of c.now)) }
+fn cond_alone(alloc: Global, c: &Cond<Label>) -> Result<Box<Cond<()>>, NoMemory>
+    ensures { IfOk result (λ r. cond_of r.value ≡ cond_without (cond_of c.now)) }
 {
     match c {
-        Cond::Value(e) => Ok(Cond::Value(copy_expr(alloc, e)?)),
-        Cond::Parenthesis(left, inner, right) => {
-            let inner = Box::new(alloc, cond_alone(alloc, inner)?)?;
-            Ok(Cond::Parenthesis(*left, inner, *right))
+        Cond::Value(e) => {
+            let e = copy_expr(alloc, e)?;
+            boxed(alloc, Cond::Value(Box::into_inner(e)))
         }
-        Cond::Not(at, inner) => Ok(Cond::Not(*at, Box::new(alloc, cond_alone(alloc, inner)?)?)),
+        Cond::Parenthesis(left, inner, right) => {
+            let inner = cond_alone(alloc, inner)?;
+            boxed(alloc, Cond::Parenthesis(*left, inner, *right))
+        }
+        Cond::Not(at, inner) => {
+            let inner = cond_alone(alloc, inner)?;
+            boxed(alloc, Cond::Not(*at, inner))
+        }
         Cond::Both(left, at, _, _, right) => {
-            let left = Box::new(alloc, cond_alone(alloc, left)?)?;
-            let right = Box::new(alloc, cond_alone(alloc, right)?)?;
-            Ok(Cond::Both(left, *at, (), (), right))
+            let left = cond_alone(alloc, left)?;
+            let right = cond_alone(alloc, right)?;
+            boxed(alloc, Cond::Both(left, *at, (), (), right))
         }
         Cond::Either(left, at, _, _, right) => {
-            let left = Box::new(alloc, cond_alone(alloc, left)?)?;
-            let right = Box::new(alloc, cond_alone(alloc, right)?)?;
-            Ok(Cond::Either(left, *at, (), (), right))
+            let left = cond_alone(alloc, left)?;
+            let right = cond_alone(alloc, right)?;
+            boxed(alloc, Cond::Either(left, *at, (), (), right))
         }
     }
 }
@@ -39,10 +46,11 @@ fn cond_alone(alloc: Global, c: &Cond<Label>) -> Result<Cond<()>, NoMemory>
 fn test_alone(alloc: Global, x: &Test<Label>) -> Result<Test<()>, NoMemory>
     ensures { IfOk result (λ r. test_of r ≡ test_without (test_of x.now)) }
 {
+    let condition = cond_alone(alloc, &x.condition)?;
     Ok(Test {
         keyword: x.keyword,
         left: x.left,
-        condition: cond_alone(alloc, &x.condition)?,
+        condition: Box::into_inner(condition),
         right: x.right,
     })
 }
@@ -53,7 +61,10 @@ fn optional_alone(alloc: Global, c: &Option<Cond<Label>>) -> Result<Option<Cond<
 {
     match c {
         None => Ok(None),
-        Some(c) => Ok(Some(cond_alone(alloc, c)?)),
+        Some(c) => {
+            let c = cond_alone(alloc, c)?;
+            Ok(Some(Box::into_inner(c)))
+        }
     }
 }
 
@@ -61,61 +72,79 @@ fn optional_alone(alloc: Global, c: &Option<Cond<Label>>) -> Result<Option<Cond<
 fn head_alone(alloc: Global, x: &ForHead<Label>) -> Result<ForHead<()>, NoMemory>
     ensures { IfOk result (λ r. for_head_of r ≡ head_without (for_head_of x.now)) }
 {
+    let first = copy_optional_assignment(alloc, &x.first)?;
+    let step = copy_optional_assignment(alloc, &x.step)?;
+    let condition = optional_alone(alloc, &x.condition)?;
     Ok(ForHead {
         keyword: x.keyword,
         left: x.left,
-        first: copy_optional_assignment(alloc, &x.first)?,
+        first: unboxed(first),
         first_semicolon: x.first_semicolon,
-        condition: optional_alone(alloc, &x.condition)?,
+        condition,
         second_semicolon: x.second_semicolon,
-        step: copy_optional_assignment(alloc, &x.step)?,
+        step: unboxed(step),
         right: x.right,
     })
 }
 
 // A statement without its labels.
 #[cycle(stmt_alone)]
-fn stmt_alone(alloc: Global, s: &Stmt<Label>) -> Result<Stmt<()>, NoMemory>
-    ensures { IfOk result (λ r. stmt_of r ≡ stmt_without (stmt_of s.now)) }
+fn stmt_alone(alloc: Global, s: &Stmt<Label>) -> Result<Box<Stmt<()>>, NoMemory>
+    ensures { IfOk result (λ r. stmt_of r.value ≡ stmt_without (stmt_of s.now)) }
 {
     match s {
-        Stmt::Empty(semicolon) => Ok(Stmt::Empty(*semicolon)),
+        Stmt::Empty(semicolon) => boxed(alloc, Stmt::Empty(*semicolon)),
         Stmt::Block(left, body, right) => {
-            Ok(Stmt::Block(*left, stmts_alone(alloc, body.as_slice())?, *right))
+            let body = stmts_alone(alloc, body.as_slice())?;
+            boxed(alloc, Stmt::Block(*left, body, *right))
         }
-        Stmt::Assign(x, semicolon) => Ok(Stmt::Assign(copy_assignment(alloc, x)?, *semicolon)),
+        Stmt::Assign(x, semicolon) => {
+            let x = copy_assignment(alloc, x)?;
+            boxed(alloc, Stmt::Assign(Box::into_inner(x), *semicolon))
+        }
         Stmt::ReadPort(target, equals, port, semicolon) => {
-            Ok(Stmt::ReadPort(copy_expr(alloc, target)?, *equals, *port, *semicolon))
+            let target = Box::into_inner(copy_expr(alloc, target)?);
+            boxed(alloc, Stmt::ReadPort(target, *equals, *port, *semicolon))
         }
         Stmt::WritePort(port, equals, value, semicolon) => {
-            Ok(Stmt::WritePort(*port, *equals, copy_expr(alloc, value)?, *semicolon))
+            let value = Box::into_inner(copy_expr(alloc, value)?);
+            boxed(alloc, Stmt::WritePort(*port, *equals, value, *semicolon))
         }
-        Stmt::Call(call, semicolon, _) => Ok(Stmt::Call(copy_call(alloc, call)?, *semicolon, ())),
+        Stmt::Call(call, semicolon, _) => {
+            let call = copy_call(alloc, call)?;
+            boxed(alloc, Stmt::Call(call, *semicolon, ()))
+        }
         Stmt::If(test, _, arm, _) => {
-            let arm = Box::new(alloc, stmt_alone(alloc, arm)?)?;
-            Ok(Stmt::If(test_alone(alloc, test)?, (), arm, ()))
+            let arm = stmt_alone(alloc, arm)?;
+            let test = test_alone(alloc, test)?;
+            boxed(alloc, Stmt::If(test, (), arm, ()))
         }
         Stmt::IfElse(test, _, arm, at, _, otherwise) => {
-            let arm = Box::new(alloc, stmt_alone(alloc, arm)?)?;
-            let otherwise = Box::new(alloc, stmt_alone(alloc, otherwise)?)?;
-            Ok(Stmt::IfElse(test_alone(alloc, test)?, (), arm, *at, (), otherwise))
+            let arm = stmt_alone(alloc, arm)?;
+            let otherwise = stmt_alone(alloc, otherwise)?;
+            let test = test_alone(alloc, test)?;
+            boxed(alloc, Stmt::IfElse(test, (), arm, *at, (), otherwise))
         }
         Stmt::While(test, _, body, _) => {
-            let body = Box::new(alloc, stmt_alone(alloc, body)?)?;
-            Ok(Stmt::While(test_alone(alloc, test)?, (), body, ()))
+            let body = stmt_alone(alloc, body)?;
+            let test = test_alone(alloc, test)?;
+            boxed(alloc, Stmt::While(test, (), body, ()))
         }
         Stmt::Do(keyword, body, test, _, semicolon, _) => {
-            let body = Box::new(alloc, stmt_alone(alloc, body)?)?;
-            Ok(Stmt::Do(*keyword, body, test_alone(alloc, test)?, (), *semicolon, ()))
+            let body = stmt_alone(alloc, body)?;
+            let test = test_alone(alloc, test)?;
+            boxed(alloc, Stmt::Do(*keyword, body, test, (), *semicolon, ()))
         }
         Stmt::For(head, _, body, _) => {
-            let body = Box::new(alloc, stmt_alone(alloc, body)?)?;
-            Ok(Stmt::For(head_alone(alloc, head)?, (), body, ()))
+            let body = stmt_alone(alloc, body)?;
+            let head = head_alone(alloc, head)?;
+            boxed(alloc, Stmt::For(head, (), body, ()))
         }
-        Stmt::Break(keyword, semicolon) => Ok(Stmt::Break(*keyword, *semicolon)),
-        Stmt::Continue(keyword, semicolon) => Ok(Stmt::Continue(*keyword, *semicolon)),
+        Stmt::Break(keyword, semicolon) => boxed(alloc, Stmt::Break(*keyword, *semicolon)),
+        Stmt::Continue(keyword, semicolon) => boxed(alloc, Stmt::Continue(*keyword, *semicolon)),
         Stmt::Return(keyword, value, semicolon) => {
-            Ok(Stmt::Return(*keyword, copy_optional_expr(alloc, value)?, *semicolon))
+            let value = copy_optional_expr(alloc, value)?;
+            boxed(alloc, Stmt::Return(*keyword, value, *semicolon))
         }
     }
 }
@@ -127,7 +156,8 @@ fn stmts_alone(alloc: Global, statements: &[Stmt<Label>]) -> Result<Vec<Stmt<()>
 {
     let mut copies = Vec::new(alloc);
     for statement in statements {
-        copies.push(stmt_alone(alloc, statement)?)?;
+        let statement = stmt_alone(alloc, statement)?;
+        copies.push(Box::into_inner(statement))?;
     }
     Ok(copies)
 }
@@ -136,15 +166,19 @@ fn stmts_alone(alloc: Global, statements: &[Stmt<Label>]) -> Result<Vec<Stmt<()>
 fn function_alone(alloc: Global, x: &Function<Label>) -> Result<Function<()>, NoMemory>
     ensures { IfOk result (λ r. function_of r ≡ function_without (function_of x.now)) }
 {
+    let body = stmts_alone(alloc, x.body.as_slice())?;
+    let locals = copy_locals(alloc, x.locals.as_slice())?;
+    let result = x.result.duplicate(alloc)?;
+    let header = copy_header(alloc, &x.header)?;
     Ok(Function {
-        header: copy_header(alloc, &x.header)?,
-        result: x.result.duplicate(alloc)?,
+        header,
+        result,
         first_variable: x.first_variable,
         parameters: x.parameters,
         left: x.left,
         label: (),
-        locals: copy_locals(alloc, x.locals.as_slice())?,
-        body: stmts_alone(alloc, x.body.as_slice())?,
+        locals,
+        body,
         right: x.right,
     })
 }
