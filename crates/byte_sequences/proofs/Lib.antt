@@ -1,0 +1,10 @@
+pub mod Pushes
+pub mod Machine
+pub mod Chains
+pub mod Sums
+pub mod MoveLaws
+pub mod SoundBytes
+pub mod ComparisonLaws
+pub mod ShiftLaws
+pub mod OperationLaws
+pub mod TouchedBytes

@@ -1,0 +1,13 @@
+//! What each operation on values of two bytes becomes: a sequence of operations on bytes, over the virtual registers of a call.
+#![tactic(auto)]
+
+pub mod arithmetic;
+pub mod comparisons;
+pub mod moves;
+pub mod operations;
+pub mod sequence;
+pub mod shifts;
+pub mod words;
+
+pub use operations::{node_of, MOST_NUMBERS};
+pub use words::Word;

@@ -1,0 +1,17 @@
+pub mod Numbered
+pub mod Nodes
+pub mod Running
+pub mod Related
+pub mod Handing
+pub mod Entered
+pub mod States
+pub mod Steps
+pub mod CallSteps
+pub mod Preserved
+pub mod Results
+pub mod Labelled
+pub mod CarryInside
+pub mod Kept
+pub mod Sums
+pub mod Named
+pub mod Formed
