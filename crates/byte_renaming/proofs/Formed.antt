@@ -1,12 +1,12 @@
 -- A program is well formed, and soundly labelled, where its functions are those of such a program under other names.
-use Rattle.std.proofs.Common.{◌≡◌, ℕ, zero, suc, ◌<◌, ◌↔◌, List, [], ◌∷◌, ◌++◌, length, map, refl, sym, ap, ap₂, ◌∙◌, subst}
+use Rattle.std.proofs.Common.{◌≡◌, ℕ, suc, ◌<◌, ◌↔◌, List, [], ◌∷◌, ◌++◌, length, map, refl, sym, ap, ap₂, ◌∙◌, subst}
 use Rattle.std.proofs.lemmas.List.{length-map}
 use Rattle.std.specs.List.{AllByRecursion}
 use Rattle.cerco_base.specs.CallOrder.{Called, functions_of}
 use Rattle.cerco_traces.specs.LabelledGraphs.{In}
 use Rattle.rtl.specs.declared.graphs.Exit.{Exit}
 use Rattle.rtl.specs.declared.graphs.Exit.TheVariants.{Next, Test, Call, Label, Return}
-use Rattle.rtl.specs.Programs.{Node, Graph, Bytes}
+use Rattle.rtl.specs.Programs.{Node, Graph}
 use Rattle.rtl.specs.Graphs.{renamed_exit, renamed_node, renamed_graph, IsSoundlyLabelled, AreSoundlyLabelled}
 use Rattle.rtl.specs.WellFormed.{gathered, exit_nodes, functions_in, labels_in, NoneTwice, AreCounted, IsGraph, callers_of, AreCallersFrom, IsWellFormed}
 use Rattle.rtl.proofs.RenamedGraphs.{functions_kept, labels_kept, still_labelled}
@@ -80,13 +80,13 @@ module _ {L M : Type 0} where
   graphs_formed (g ∷ gs) [] all formed = absurd all
   graphs_formed (g ∷ gs) (h ∷ hs) all formed = (subst IsGraph (sym all.0.1) (graph_formed all.0.0 g formed.0), graphs_formed gs hs all.1 formed.1)
 
-  functions_so : (P : ℕ → Type 0) (gs : List (Graph L)) (hs : List (Graph M)) → AreRenamed gs hs → AllByRecursion (λ g. AllByRecursion P (functions_in g)) gs → AllByRecursion (λ h. AllByRecursion P (functions_in h)) hs
+  pub functions_so : (P : ℕ → Type 0) (gs : List (Graph L)) (hs : List (Graph M)) → AreRenamed gs hs → AllByRecursion (λ g. AllByRecursion P (functions_in g)) gs → AllByRecursion (λ h. AllByRecursion P (functions_in h)) hs
   functions_so P [] [] all so = tt
   functions_so P [] (h ∷ hs) all so = absurd all
   functions_so P (g ∷ gs) [] all so = absurd all
   functions_so P (g ∷ gs) (h ∷ hs) all so = (subst (AllByRecursion P) (sym (functions_same g h all.0)) so.0, functions_so P gs hs all.1 so.1)
 
-  callers_so : (calls : List Called) (k : ℕ) (gs : List (Graph L)) (hs : List (Graph M)) → AreRenamed gs hs → AreCallersFrom calls k gs → AreCallersFrom calls k hs
+  pub callers_so : (calls : List Called) (k : ℕ) (gs : List (Graph L)) (hs : List (Graph M)) → AreRenamed gs hs → AreCallersFrom calls k gs → AreCallersFrom calls k hs
   callers_so calls k [] [] all so = tt
   callers_so calls k [] (h ∷ hs) all so = absurd all
   callers_so calls k (g ∷ gs) [] all so = absurd all

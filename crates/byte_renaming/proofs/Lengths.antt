@@ -1,5 +1,5 @@
 -- No graph is longer under other names.
-use Rattle.std.proofs.Common.{◌≡◌, ℕ, ◌+◌, ◌≤◌, List, [], ◌∷◌, map, Bool, true, false, nat_eq, if◌then◌else◌, refl, sym, ap, ◌∙◌, subst, arith, eq-eqb, eqb-true}
+use Rattle.std.proofs.Common.{◌≡◌, ℕ, ◌+◌, ◌≤◌, List, [], ◌∷◌, map, Bool, true, false, nat_eq, if◌then◌else◌, refl, ap, arith, eq-eqb, eqb-true}
 use Rattle.rtl.specs.declared.graphs.Exit.{Exit}
 use Rattle.rtl.specs.declared.graphs.Exit.TheVariants.{Next, Test, Call, Label, Return}
 use Rattle.rtl.specs.Operations.{ByteOp}

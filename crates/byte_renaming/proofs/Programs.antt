@@ -1,7 +1,5 @@
 -- The functions of a program under other names for locations.
 use Rattle.std.proofs.Common.{◌≡◌, ℕ, zero, suc, List, [], ◌∷◌, map, refl, sym, ap, ◌∙◌}
-use Rattle.rtl.specs.declared.graphs.Exit.{Exit}
-use Rattle.rtl.specs.Operations.{ByteOp}
 use Rattle.rtl.specs.Programs.{Node, Graph}
 use Rattle.rtl.specs.Graphs.{renamed_op, renamed_exit, renamed_graph, ops_at, exit_at, graph_at}
 use Rattle.rtl.proofs.Renamings.{graph_twice, node_renamed}

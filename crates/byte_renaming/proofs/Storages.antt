@@ -1,12 +1,12 @@
 -- What an operation reads and writes under other names.
-use Rattle.std.proofs.Common.{◌≡◌, ℕ, List, [], ◌∷◌, ◌++◌, map, ◌⊎◌, inl, inr, refl, ap}
+use Rattle.std.proofs.Common.{◌≡◌, ℕ, List, [], ◌∷◌, ◌++◌, map, inl, inr, refl, ap}
 use Rattle.rtl.specs.declared.operations.Src.{Src}
 use Rattle.rtl.specs.declared.operations.Src.TheVariants.{At, Byte}
 use Rattle.rtl.specs.declared.operations.Arith.{Arith}
 use Rattle.rtl.specs.declared.operations.Arith.TheVariants.{Add, Addc, Subb, And, Or, Xor}
 use Rattle.rtl.specs.Operations.{ByteOp}
 use Rattle.rtl.specs.Operations.{Const, Move, Op, Mul, Div, Rem, Rlc, Rrc, Top, ClearCarry, SetCarry, FlipCarry, FromCarry, Load, Store, ReadPort, WritePort}
-use Rattle.rtl.specs.Effects.{Storage, Loc, Carry, operand_reads, arith_reads, arith_writes, reads, writes}
+use Rattle.rtl.specs.Effects.{Storage, Loc, Carry, operand_reads, arith_reads, reads, writes}
 use Rattle.rtl.specs.Graphs.{renamed_operand, renamed_op}
 use Rattle.rtl.specs.Liveness.{IsAmong}
 use Rattle.rtl.proofs.ValueLaws.{renamed_storage}

@@ -1,5 +1,5 @@
 -- The exchange of argument places.
-use Rattle.std.proofs.Common.{◌≡◌, ℕ, ◌+◌, ◌-◌, ◌<◌, ◌≤◌, ◌⊎◌, inl, inr, nat_lt, true, false, Bool, if◌then◌else◌, refl, sym, ap, ◌∙◌, arith, lt-ltb, le-ltb}
+use Rattle.std.proofs.Common.{◌≡◌, ℕ, ◌+◌, ◌-◌, ◌<◌, ◌≤◌, ◌⊎◌, inl, inr, nat_lt, true, refl, sym, ap, ◌∙◌, arith, lt-ltb, le-ltb}
 use Rattle.rtl.specs.Effects.{Storage, Loc, Carry}
 use Rattle.rtl.specs.Meaning.{shares_first}
 use Rattle.rtl.specs.Liveness.{IsArgument}

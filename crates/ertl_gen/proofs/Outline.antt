@@ -1,5 +1,5 @@
 -- Lengths of a program, and what it keeps.
-use Rattle.std.proofs.Common.{◌≡◌, ℕ, ◌+◌, ◌≤◌, List, [], ◌∷◌, map, refl, ap, arith, subst, sym}
+use Rattle.std.proofs.Common.{◌≤◌, List, [], ◌∷◌, map, refl, arith, subst, sym}
 use Rattle.rtl.specs.declared.locations.Vreg.{Vreg}
 use Rattle.rtl.specs.Programs.{Graph, Bytes}
 use Rattle.rtl.specs.Locations.{vreg_number}

@@ -1,5 +1,5 @@
 -- An ERTL program makes the steps of the RTL program: each state of the one is a state of the other under the exchanged numbers.
-use Rattle.std.proofs.Common.{◌≡◌, ℕ, suc, ◌≤◌, List, [], ◌∷◌, length, map, Bool, IsTrue, refl, sym, ap, ap₂, ◌∙◌, subst}
+use Rattle.std.proofs.Common.{◌≡◌, ℕ, suc, ◌≤◌, List, [], ◌∷◌, length, map, IsTrue, refl, sym, ap, ap₂, ◌∙◌, subst}
 use Rattle.cerco_base.specs.declared.events.Event.TheVariants as Event
 use Rattle.cerco_traces.specs.Worlds.{World, shown, start_world}
 use Rattle.cerco_base.specs.Events.{IsPrefix}
@@ -11,10 +11,9 @@ use Rattle.rtl.specs.declared.graphs.Exit.{Exit}
 use Rattle.rtl.specs.declared.graphs.Exit.TheVariants.{Next, Test, Call, Label, Return}
 use Rattle.rtl.specs.Programs.{Graph}
 use Rattle.rtl.specs.Effects.{Storage, Loc, Effect, effect}
-use Rattle.rtl.specs.Graphs.{renamed_op, renamed_exit, renamed_graph, ops_at, exit_at}
-use Rattle.rtl.specs.Meaning.{State, OpenCall, state, call_at, fresh_call, all_zero, seen, shared_after, own_after, branch, after_op, exit_step, call_step, graph_step, next_touched, calls_touched, is_label, label_comes, label_due, no_call, graph_system, shares_first}
+use Rattle.rtl.specs.Graphs.{renamed_op, renamed_exit, renamed_graph, exit_at}
+use Rattle.rtl.specs.Meaning.{State, OpenCall, state, call_at, all_zero, seen, branch, after_op, exit_step, call_step, graph_step, next_touched, calls_touched, is_label, label_comes, label_due, no_call, graph_system, shares_first}
 use Rattle.rtl.proofs.EffectLaws.{renamed_effect, seen_as, effect_renamed}
-use Rattle.rtl.proofs.ValueLaws.{renamed_assignment}
 use Rattle.byte_renaming.proofs.Programs.{same_function, ops_renamed, exit_renamed}
 use Rattle.ertl_gen.specs.Translation.{exchanged_number}
 use Rattle.ertl_gen.proofs.Related.{turned, seen_turned, shared_turned, own_turned}

@@ -1,5 +1,5 @@
 -- What an ERTL program holds is what the RTL program holds, under the other numbers.
-use Rattle.std.proofs.Common.{◌≡◌, ℕ, List, [], ◌∷◌, map, Bool, true, false, if◌then◌else◌, ◌⊎◌, inl, inr, refl, sym, ap, ◌∙◌, subst}
+use Rattle.std.proofs.Common.{◌≡◌, ℕ, List, [], ◌∷◌, map, Bool, true, false, if◌then◌else◌, ◌⊎◌, inl, inr, refl, sym, ap, ◌∙◌}
 use Rattle.rtl.specs.Effects.{Storage, Assignment, same_storage}
 use Rattle.rtl.specs.Meaning.{with_value, seen, shared_after, own_after, shares_first}
 use Rattle.rtl.proofs.ValueLaws.{same_or_not, value_same, value_other, renamed_assignment}

@@ -1,8 +1,7 @@
 -- The ERTL program of an RTL program (CerCo, deliverable 4.2: ERTL makes the places explicit in which arguments and results are
 -- handed over): a renaming. The argument places of RTL are the virtual registers 12 to 23, those of ERTL the ones from 0 to 11; these
 -- change their numbers with each other, so that no two get one number, whatever a program names.
-use Rattle.std.specs.Prelude.{◌≡◌, ℕ, ◌+◌, ◌-◌, List, map, length, nat_lt, if◌then◌else◌}
-use Rattle.cerco_base.specs.CallOrder.{Called}
+use Rattle.std.specs.Prelude.{◌≡◌, ℕ, ◌+◌, ◌-◌, map, length, nat_lt, if◌then◌else◌}
 use Rattle.rtl.specs.declared.locations.Vreg.{Vreg}
 use Rattle.rtl.specs.Programs.{Bytes}
 use Rattle.rtl.specs.Graphs.{renamed_graph}

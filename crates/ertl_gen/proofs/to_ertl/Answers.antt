@@ -1,5 +1,5 @@
 -- The program that is made has the parts of the translation, of which each clause is a law.
-use Rattle.std.proofs.Common.{◌≡◌, ℕ, ◌≤◌, List, map, ap, ◌∙◌}
+use Rattle.std.proofs.Common.{ℕ, ◌≤◌, map, ap, ◌∙◌}
 use Rattle.cerco_traces.specs.Preservation.{Preserves}
 use Rattle.rtl.specs.declared.locations.Vreg.{Vreg}
 use Rattle.rtl.specs.Programs.{Bytes}

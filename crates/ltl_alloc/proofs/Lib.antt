@@ -1,0 +1,9 @@
+pub mod Lists
+pub mod Places
+pub mod Related
+pub mod Steps
+pub mod Preserved
+pub mod Framing
+pub mod Marks
+pub mod OneCells
+pub mod Program

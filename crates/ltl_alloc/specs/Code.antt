@@ -1,0 +1,2 @@
+pub mod PlaceTables
+pub mod Spots
