@@ -14,11 +14,17 @@ enum Part {
 }
 
 const HERE: Part = Part::Item(AsmItem::Here(0, 1));
+
 const OTHER: Part = Part::Item(AsmItem::Here(0, 2));
+
 const JUMP: Part = Part::Item(AsmItem::Jump(0, 1));
+
 const TEST: Part = Part::Item(AsmItem::Test(0, 1));
+
 const JUMP_OTHER: Part = Part::Item(AsmItem::Jump(0, 2));
+
 const ENTER: Part = Part::Item(AsmItem::Enter(0));
+
 const RET: Part = Part::Item(AsmItem::Plain(Instr::Ret(ReturnKind::FromCall)));
 
 // The program of these parts.
@@ -109,8 +115,20 @@ fn forms_at_their_bounds(rt: HostRuntime) {
 
 #[test]
 fn rounds_are_whole(rt: HostRuntime) {
-    let parts = [Part::Nops(2040), TEST, JUMP, Part::Nops(2040), HERE, Part::Nops(2040)];
-    assert!(rt; matches!(layout_of(rt.alloc(), &parts, 2041, 2041), Some((b'L', 2047, 2047, 6130))));
+    let parts = [
+        Part::Nops(2040),
+        TEST,
+        JUMP,
+        Part::Nops(2040),
+        HERE,
+        Part::Nops(2040),
+    ];
+    assert!(rt;
+        matches!(
+            layout_of(rt.alloc(), &parts, 2041, 2041),
+            Some((b'L', 2047, 2047, 6130))
+        )
+    );
     let parts = [
         Part::Nops(2044),
         TEST,
@@ -121,7 +139,12 @@ fn rounds_are_whole(rt: HostRuntime) {
         Part::Nops(21),
         OTHER,
     ];
-    assert!(rt; matches!(layout_of(rt.alloc(), &parts, 4089, 4089), Some((b'L', 4095, 4095, 4948))));
+    assert!(rt;
+        matches!(
+            layout_of(rt.alloc(), &parts, 4089, 4089),
+            Some((b'L', 4095, 4095, 4948))
+        )
+    );
 }
 
 #[test]
@@ -141,7 +164,10 @@ fn code_and_labels(rt: HostRuntime) {
     let found = object_of(rt.alloc(), &parts);
     assert!(rt; found.is_some());
     if let Some(object) = found {
-        assert!(rt; object.code.as_slice() == [0x00, 0x70, 0x04, 0x00, 0x12, 0x00, 0x00, 0x80, 0xFE, 0x22].as_slice());
+        assert!(rt;
+            object.code.as_slice()
+                == [0x00, 0x70, 0x04, 0x00, 0x12, 0x00, 0x00, 0x80, 0xFE, 0x22].as_slice()
+        );
         assert!(rt; object.labels.as_slice() == [3, 0].as_slice());
     }
 }
@@ -161,6 +187,9 @@ fn a_page_jump_and_a_far_test_have_their_bytes(rt: HostRuntime) {
     if let Some(object) = found {
         let code = object.code.as_slice();
         assert!(rt; code.get(..2) == Some([0x21, 0x02].as_slice()));
-        assert!(rt; code.get(258..) == Some([0x01, 0x00, 0x70, 0x02, 0x80, 0x03, 0x02, 0x00, 0x00].as_slice()));
+        assert!(rt;
+            code.get(258..)
+                == Some([0x01, 0x00, 0x70, 0x02, 0x80, 0x03, 0x02, 0x00, 0x00].as_slice())
+        );
     }
 }

@@ -136,7 +136,7 @@ inequality_gives is_turned s t ts us c apart clear has =
     let end = flag_gives is_turned s t ts c3 apart in
     let joined' : all_done (inequality is_turned (t ∷ ts) us) c ≡ all_done (flag is_turned (t ∷ ts)) c3 = all_done_append first (joins t ts ++ last) c ∙ all_done_append (joins t ts) last c1 in
     let carry_is : carry c3 ≡ not (nat_eq x y) =
-        one.carry_is ∙ carry_of_some (byte c2 t) (has2.hold t) ∙ ap not (zero_where_same (byte c2 t) x y (λ z. d.none (j.from_zero z)) (λ e. j.to_zero (d.from_none e))) in
+    one.carry_is ∙ carry_of_some (byte c2 t) (has2.hold t) ∙ ap not (zero_where_same (byte c2 t) x y (λ z. d.none (j.from_zero z)) (λ e. j.to_zero (d.from_none e))) in
     record {
       is = ap (value (t ∷ ts)) joined' ∙ end.is ∙ ap (λ b. bit_value (turned_by is_turned b)) carry_is;
       same = λ r off other. ap (λ (z : Cpu). byte z r) joined' ∙ end.same r off other ∙ one.same r off.0 ∙ j.same r off.0 ∙ d.same r off;
@@ -246,10 +246,10 @@ module _ (s t : ℕ) (ts : List ℕ) (u : ℕ) (us : List ℕ) (c : Cpu) (apart 
       let s_other : s ≢ top t ts = off_top s t ts s_off_t in
       let top_is : byte c2 (top t ts) ≡ sum_byte (byte c1 (top t ts)) 128 false = second.at in
       let left_bytes : read (t ∷ ts) c2.see ≡ moved_bytes (read (t ∷ ts) c.see) =
-          top_moved t ts c1.see c2.see apart second.same top_is ∙ ap moved_bytes (read_off (t ∷ ts) s c.see c1.see first.same s_off_t) in
+      top_moved t ts c1.see c2.see apart second.same top_is ∙ ap moved_bytes (read_off (t ∷ ts) s c.see c1.see first.same s_off_t) in
       let s_is : byte c2 s ≡ sum_byte (byte c (top u us)) 128 false = second.same s s_other ∙ first.at in
       let right_bytes : read (with_top s (u ∷ us)) c2.see ≡ moved_bytes (read (u ∷ us) c.see) =
-          with_top_moved s (top t ts) u us c.see c2.see (λ q not_s not_t. second.same q not_t ∙ first.same q not_s) s_off_u low s_is in
+      with_top_moved s (top t ts) u us c.see c2.see (λ q not_s not_t. second.same q not_t ∙ first.same q not_s) s_off_u low s_is in
       let long : length us ≡ length ts = length_ats ts (ats ts) us clear.3 in
       let has2 = all_done_has_bytes (moved_tops s (t ∷ ts) (u ∷ us)) c ((tt, omega arith), ((tt, omega arith), tt)) has in
       record {
@@ -267,8 +267,8 @@ module _ (s t : ℕ) (ts : List ℕ) (u : ℕ) (us : List ℕ) (c : Cpu) (apart 
       let ops = moved_tops s (t ∷ ts) (u ∷ us) in
       let c2 : Cpu = all_done ops c in
       let rest = order_gives false s t ts (ats (t ∷ ts)) (ats (with_top s (u ∷ us))) c2 _ _
-          (ap bytes_value (operands_ats (t ∷ ts) c2.see) ∙ m.left) (ap bytes_value (operands_ats (with_top s (u ∷ us)) c2.see) ∙ m.right)
-          apart (clear_with_top s (t ∷ ts) (ats (t ∷ ts)) (u ∷ us) clear s_off_t) (ats_bytes (t ∷ ts)) (ats_bytes (with_top s (u ∷ us))) m.hold in
+      (ap bytes_value (operands_ats (t ∷ ts) c2.see) ∙ m.left) (ap bytes_value (operands_ats (with_top s (u ∷ us)) c2.see) ∙ m.right)
+      apart (clear_with_top s (t ∷ ts) (ats (t ∷ ts)) (u ∷ us) clear s_off_t) (ats_bytes (t ∷ ts)) (ats_bytes (with_top s (u ∷ us))) m.hold in
       let joined' = all_done_append ops (order false (t ∷ ts) (ats (t ∷ ts)) (ats (with_top s (u ∷ us)))) c in
       record {
         is = ap (value (t ∷ ts)) joined' ∙ rest.is;
@@ -282,8 +282,8 @@ module _ (s t : ℕ) (ts : List ℕ) (u : ℕ) (us : List ℕ) (c : Cpu) (apart 
       let ops = moved_tops s (t ∷ ts) (u ∷ us) in
       let c2 : Cpu = all_done ops c in
       let rest = order_gives true s t ts (ats (with_top s (u ∷ us))) (ats (t ∷ ts)) c2 _ _
-          (ap bytes_value (operands_ats (with_top s (u ∷ us)) c2.see) ∙ m.right) (ap bytes_value (operands_ats (t ∷ ts) c2.see) ∙ m.left)
-          apart (clear_turned (t ∷ ts) (ats (t ∷ ts)) (ats (with_top s (u ∷ us))) (clear_with_top s (t ∷ ts) (ats (t ∷ ts)) (u ∷ us) clear s_off_t)) (ats_bytes (with_top s (u ∷ us))) (ats_bytes (t ∷ ts)) m.hold in
+      (ap bytes_value (operands_ats (with_top s (u ∷ us)) c2.see) ∙ m.right) (ap bytes_value (operands_ats (t ∷ ts) c2.see) ∙ m.left)
+      apart (clear_turned (t ∷ ts) (ats (t ∷ ts)) (ats (with_top s (u ∷ us))) (clear_with_top s (t ∷ ts) (ats (t ∷ ts)) (u ∷ us) clear s_off_t)) (ats_bytes (with_top s (u ∷ us))) (ats_bytes (t ∷ ts)) m.hold in
       let joined' = all_done_append ops (order true (t ∷ ts) (ats (with_top s (u ∷ us))) (ats (t ∷ ts))) c in
       record {
         is = ap (value (t ∷ ts)) joined' ∙ rest.is;

@@ -133,11 +133,11 @@ operator_gives s o.Ne a b c words off off' has = inequality_gives false s a ((a 
 operator_gives s o.LtS a b c words off off' has = signed_less_gives s a ((a + 1) ∷ []) b ((b + 1) ∷ []) c (word_apart a) (words_clear a b words) off off' (words.high_low, tt) has
 operator_gives s o.LtU a b c words off off' has =
     order_gives false s a ((a + 1) ∷ []) (ats (word_from number a)) (ats (word_from number b)) c _ _ (ap bytes_value (operands_ats (word_from number a) c.see)) (ap bytes_value (operands_ats (word_from number b) c.see))
-        (word_apart a) (words_clear a b words) (ats_bytes (word_from number a)) (ats_bytes (word_from number b)) has.hold
+    (word_apart a) (words_clear a b words) (ats_bytes (word_from number a)) (ats_bytes (word_from number b)) has.hold
 operator_gives s o.LeS a b c words off off' has = signed_up_to_gives s a ((a + 1) ∷ []) b ((b + 1) ∷ []) c (word_apart a) (words_clear a b words) off off' (words.high_low, tt) has
 operator_gives s o.LeU a b c words off off' has =
     order_gives true s a ((a + 1) ∷ []) (ats (word_from number b)) (ats (word_from number a)) c _ _ (ap bytes_value (operands_ats (word_from number b) c.see)) (ap bytes_value (operands_ats (word_from number a) c.see))
-        (word_apart a) (clear_turned (word_from number a) (ats (word_from number a)) (ats (word_from number b)) (words_clear a b words)) (ats_bytes (word_from number b)) (ats_bytes (word_from number a)) has.hold
+    (word_apart a) (clear_turned (word_from number a) (ats (word_from number a)) (ats (word_from number b)) (words_clear a b words)) (ats_bytes (word_from number b)) (ats_bytes (word_from number a)) has.hold
 
 pub negated_gives : (s a : ℕ) (c : Cpu) → HasBytes c → Gives (difference (word_from number a) (literals 0 (word_from number a)) (ats (word_from number a))) s c (word_from number a) (negated word_bytes (value (word_from number a) c))
 negated_gives s a c has = negative_gives s (word_from number a) c ((λ e. omega (arith, e), tt), (tt, tt), (λ e. omega (arith, e), tt), (tt, tt, tt, tt)) has.hold

@@ -16,4 +16,5 @@ repeated-more k before ops =
     append_assoc before (repeated k ops) ops ∙ ap (λ more. before ++ more) (repeated-last k ops ∙ ap (λ n. repeated n ops) (sym next))
 
 pub ruleset pushes = (map-append, append_assoc, append-nil)
+
 pub ruleset growing = (append-nil, repeated-more)

@@ -153,19 +153,19 @@ doubled n x = let e : x + x ≡ x * 2 = omega arith in ap (λ y. y % count_of_va
 pub shift_left_gives : (k s t : ℕ) (ts : List ℕ) (c : Cpu) → Clear (t ∷ ts) (ats (t ∷ ts)) (ats (t ∷ ts)) → HasBytes c → Gives (shift_left k (t ∷ ts)) s c (t ∷ ts) (shifted_left (suc (length ts)) k (value (t ∷ ts) c))
 shift_left_gives k s t ts c clear has =
     repeated_gives (sum (t ∷ ts) (t ∷ ts)) s (t ∷ ts) (λ x. (x + x) % count_of_values (suc (length ts))) (shifted_left (suc (length ts))) (sum_byte_ops (t ∷ ts) (t ∷ ts))
-        (λ c has. sum_gives s t ts t ts c clear has.hold)
-        (λ x less. sym (left_none (suc (length ts)) x less))
-        (λ k x less. ap (shifted_left (suc (length ts)) k) (doubled (suc (length ts)) x) ∙ sym (left_more (suc (length ts)) k x))
-        k c has
+    (λ c has. sum_gives s t ts t ts c clear has.hold)
+    (λ x less. sym (left_none (suc (length ts)) x less))
+    (λ k x less. ap (shifted_left (suc (length ts)) k) (doubled (suc (length ts)) x) ∙ sym (left_more (suc (length ts)) k x))
+    k c has
 
 pub shift_right_gives : (k : ℕ) (keeps_sign : Bool) (s t : ℕ) (ts : List ℕ) (c : Cpu) → AllApart (t ∷ ts) → HasBytes c
     → Gives (shift_right k keeps_sign (t ∷ ts)) s c (t ∷ ts) (shifted_right (suc (length ts)) k keeps_sign (value (t ∷ ts) c))
 shift_right_gives k keeps_sign s t ts c apart has =
     repeated_gives (half keeps_sign (t ∷ ts)) s (t ∷ ts) (shifted_right (suc (length ts)) 1 keeps_sign) (λ k x. shifted_right (suc (length ts)) k keeps_sign x) (half_byte_ops keeps_sign t ts)
-        (λ c has. half_gives keeps_sign s t ts c apart has.hold)
-        (λ x less. sym (right_none (suc (length ts)) x keeps_sign less))
-        (λ k x less. sym (more keeps_sign k x less))
-        k c has
+    (λ c has. half_gives keeps_sign s t ts c apart has.hold)
+    (λ x less. sym (right_none (suc (length ts)) x keeps_sign less))
+    (λ k x less. sym (more keeps_sign k x less))
+    k c has
   where
     more : (keeps : Bool) (k x : ℕ) → x < count_of_values (suc (length ts)) → shifted_right (suc (length ts)) (suc k) keeps x ≡ shifted_right (suc (length ts)) k keeps (shifted_right (suc (length ts)) 1 keeps x)
     more true k x less = signed_right_more (length ts) k x less

@@ -40,7 +40,7 @@ sum_results t ts u us c h =
     let left = operands_off (ats ts) t c.see c1.see one.same h.1 ∙ operands_ats ts c.see in
     let right = operands_off (ats us) t c.see c1.see one.same h.2 ∙ operands_ats us c.see in
     ap₂ (λ b bs. b ∷ bs) (rest.same t h.0 ∙ one.at)
-        (rest.values ∙ ap₂ (λ as' bs. results Addc as' bs (carry c1)) left right ∙ ap (results Addc (read ts c.see) (read us c.see)) one.carry_is ∙ results_sums (read ts c.see) (read us c.see) _)
+    (rest.values ∙ ap₂ (λ as' bs. results Addc as' bs (carry c1)) left right ∙ ap (results Addc (read ts c.see) (read us c.see)) one.carry_is ∙ results_sums (read ts c.see) (read us c.see) _)
 
 read_bytes : (ts us : List ℕ) (see : Storage → ℕ) → Clear ts (ats ts) (ats us) → HoldBytes see → AreBytes (read ts see) (read us see)
 read_bytes ts us see h hold =
@@ -99,9 +99,9 @@ takes ts xs ys c x y x_is y_is h f g hold =
     let right = operands_same ys c.see c0.see (at_past c.see 0) in
     let bytes = operand_bytes ts xs ys c.see h f g hold in
     let values : read ts (all_done (chain Subb ts xs ys) c0).see ≡ difference_bytes as' bs false =
-        run.values ∙ ap₂ (λ p q. results Subb p q (carry c0)) left right ∙ ap (results Subb as' bs) start ∙ results_differences as' bs false in
+    run.values ∙ ap₂ (λ p q. results Subb p q (carry c0)) left right ∙ ap (results Subb as' bs) start ∙ results_differences as' bs false in
     let borrows_is : carry (all_done (chain Subb ts xs ys) c0) ≡ borrow_out as' bs false =
-        run.carry_is ∙ ap₂ (λ p q. last_carry Subb p q (carry c0)) left right ∙ ap (last_carry Subb as' bs) start ∙ last_borrow as' bs false in
+    run.carry_is ∙ ap₂ (λ p q. last_carry Subb p q (carry c0)) left right ∙ ap (last_carry Subb as' bs) start ∙ last_borrow as' bs false in
     let n = length as' in
     let long : n ≡ length ts = length_operands ts xs ys c.see h in
     let d = bytes_value (difference_bytes as' bs false) in

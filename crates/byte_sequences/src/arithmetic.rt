@@ -38,7 +38,13 @@ pub fn twice(byte: u8, word: Word) -> Operand
 }
 
 /// The operation on the bytes of two operands in turn.
-pub fn push_each(ops: &mut Ops<Vreg>, operation: Arith, to: Word, left: Operand, right: Operand) -> Result<(), NoMemory>
+pub fn push_each(
+    ops: &mut Ops<Vreg>,
+    operation: Arith,
+    to: Word,
+    left: Operand,
+    right: Operand,
+) -> Result<(), NoMemory>
     ensures { OnOk result (ops_of ops.new ≡ ops_of ops.old ++ spec.chain operation (vregs to) (sources left) (sources right)) }
 {
     push(ops, ByteOp::Op(operation, to.low, left.low, right.low))?;
@@ -49,12 +55,23 @@ pub fn push_each(ops: &mut Ops<Vreg>, operation: Arith, to: Word, left: Operand,
 pub fn push_sum(ops: &mut Ops<Vreg>, to: Word, other: Word) -> Result<(), NoMemory>
     ensures { OnOk result (ops_of ops.new ≡ ops_of ops.old ++ spec.sum (vregs to) (vregs other)) }
 {
-    push(ops, ByteOp::Op(Arith::Add, to.low, Src::At(to.low), Src::At(other.low)))?;
-    push(ops, ByteOp::Op(Arith::Addc, to.high, Src::At(to.high), Src::At(other.high)))
+    push(
+        ops,
+        ByteOp::Op(Arith::Add, to.low, Src::At(to.low), Src::At(other.low)),
+    )?;
+    push(
+        ops,
+        ByteOp::Op(Arith::Addc, to.high, Src::At(to.high), Src::At(other.high)),
+    )
 }
 
 /// The word becomes the difference of two operands. The carry says whether it borrows.
-pub fn push_difference(ops: &mut Ops<Vreg>, to: Word, left: Operand, right: Operand) -> Result<(), NoMemory>
+pub fn push_difference(
+    ops: &mut Ops<Vreg>,
+    to: Word,
+    left: Operand,
+    right: Operand,
+) -> Result<(), NoMemory>
     ensures { OnOk result (ops_of ops.new ≡ ops_of ops.old ++ spec.difference (vregs to) (sources left) (sources right)) }
 {
     push(ops, ByteOp::ClearCarry)?;
@@ -65,7 +82,10 @@ pub fn push_difference(ops: &mut Ops<Vreg>, to: Word, left: Operand, right: Oper
 pub fn push_product(ops: &mut Ops<Vreg>, to: Word, other: Word) -> Result<(), NoMemory>
     ensures { OnOk result (ops_of ops.new ≡ ops_of ops.old ++ spec.product (vregs to) (vregs other)) }
 {
-    push(ops, ByteOp::Mul(to.low, to.high, Src::At(to.low), Src::At(other.low)))
+    push(
+        ops,
+        ByteOp::Mul(to.low, to.high, Src::At(to.low), Src::At(other.low)),
+    )
 }
 
 /// The word becomes the quotient of its low byte by that of another one.

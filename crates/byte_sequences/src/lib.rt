@@ -9,5 +9,5 @@ pub mod sequence;
 pub mod shifts;
 pub mod words;
 
-pub use operations::{node_of, MOST_NUMBERS};
+pub use operations::{MOST_NUMBERS, node_of};
 pub use words::Word;

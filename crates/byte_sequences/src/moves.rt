@@ -84,15 +84,27 @@ fn held_part(alloc: Global, held: Held, word: Word) -> SmallVec<Vreg, 4, Global>
 pub fn push_load(alloc: Global, ops: &mut Ops<Vreg>, held: Held, word: Word) -> Result<(), NoMemory>
     ensures { OnOk result (ops_of ops.new ≡ ops_of ops.old ++ spec.load held (vregs word)) }
 {
-    push(ops, ByteOp::Load(held_part(alloc, held, word), word.low, word.high))?;
+    push(
+        ops,
+        ByteOp::Load(held_part(alloc, held, word), word.low, word.high),
+    )?;
     push_extension(ops, held, word)
 }
 
 /// The scalar at an address becomes the value of a word.
-pub fn push_store(alloc: Global, ops: &mut Ops<Vreg>, held: Held, address: Word, value: Word) -> Result<(), NoMemory>
+pub fn push_store(
+    alloc: Global,
+    ops: &mut Ops<Vreg>,
+    held: Held,
+    address: Word,
+    value: Word,
+) -> Result<(), NoMemory>
     ensures { OnOk result (ops_of ops.new ≡ ops_of ops.old ++ spec.store held (vregs address) (vregs value)) }
 {
-    push(ops, ByteOp::Store(address.low, address.high, held_part(alloc, held, value)))
+    push(
+        ops,
+        ByteOp::Store(address.low, address.high, held_part(alloc, held, value)),
+    )
 }
 
 /// The word becomes the byte that the port shows.

@@ -19,13 +19,12 @@ use crate::moves::{
     push_reading, push_store,
 };
 use crate::shifts::{push_shift_left, push_shift_right};
-use crate::words::{argument, scratch, temporary, variable, Word};
+pub use crate::words::MOST_NUMBERS;
+use crate::words::{Word, argument, scratch, temporary, variable};
 use cerco_base::NoMemory;
 use cerco_middle::{CmOp, Held, RtOp};
 use rtl::{Arith, Exit, Node, Ops, Vreg};
 use std::alloc::Global;
-
-pub use crate::words::MOST_NUMBERS;
 
 // How a variable is held: in two bytes where there is no such variable.
 fn held_of(held: &[Held], variable: u32) -> Held
@@ -50,23 +49,45 @@ pub fn has_small_numbers(op: RtOp) -> bool
 {
     match op {
         RtOp::Const(t, _) => is_small(t),
-        RtOp::Get { temporary: t, variable: x } => is_small(t) && is_small(x),
-        RtOp::Put { variable: x, temporary: t } => is_small(x) && is_small(t),
+        RtOp::Get {
+            temporary: t,
+            variable: x,
+        } => is_small(t) && is_small(x),
+        RtOp::Put {
+            variable: x,
+            temporary: t,
+        } => is_small(x) && is_small(t),
         RtOp::Neg(t) => is_small(t),
         RtOp::Not(t) => is_small(t),
         RtOp::Narrow(_, t) => is_small(t),
-        RtOp::Bin { operator: _, left: t, right: u } => is_small(t) && is_small(u),
+        RtOp::Bin {
+            operator: _,
+            left: t,
+            right: u,
+        } => is_small(t) && is_small(u),
         RtOp::Shl(_, t) => is_small(t),
         RtOp::Shr(_, _, t) => is_small(t),
         RtOp::Load(_, t) => is_small(t),
-        RtOp::Store { held: _, address: t, value: u } => is_small(t) && is_small(u),
+        RtOp::Store {
+            held: _,
+            address: t,
+            value: u,
+        } => is_small(t) && is_small(u),
         RtOp::ReadPort(t) => is_small(t),
         RtOp::WritePort(t) => is_small(t),
-        RtOp::Arg { held: _, first_byte: p, temporary: t } => is_small(p) && is_small(t),
+        RtOp::Arg {
+            held: _,
+            first_byte: p,
+            temporary: t,
+        } => is_small(p) && is_small(t),
         RtOp::Call(_) => true,
         RtOp::Result(_, t) => is_small(t),
         RtOp::Label(_) => true,
-        RtOp::Test { temporary: t, on_true: _, on_false: _ } => is_small(t),
+        RtOp::Test {
+            temporary: t,
+            on_true: _,
+            on_false: _,
+        } => is_small(t),
         RtOp::Return => true,
         RtOp::ReturnValue(t) => is_small(t),
     }
@@ -117,21 +138,53 @@ fn push_operation(
 {
     match op {
         RtOp::Const(t, number) => push_constant(ops, temporary(t), number),
-        RtOp::Get { temporary: t, variable: x } => push_reading(ops, held_of(held, x), temporary(t), variable(x)),
-        RtOp::Put { variable: x, temporary: t } => push_moves(ops, held_of(held, x), variable(x), temporary(t)),
-        RtOp::Neg(t) => push_difference(ops, temporary(t), twice(0, temporary(t)), held_in(temporary(t))),
-        RtOp::Not(t) => push_difference(ops, temporary(t), twice(255, temporary(t)), held_in(temporary(t))),
+        RtOp::Get {
+            temporary: t,
+            variable: x,
+        } => push_reading(ops, held_of(held, x), temporary(t), variable(x)),
+        RtOp::Put {
+            variable: x,
+            temporary: t,
+        } => push_moves(ops, held_of(held, x), variable(x), temporary(t)),
+        RtOp::Neg(t) => push_difference(
+            ops,
+            temporary(t),
+            twice(0, temporary(t)),
+            held_in(temporary(t)),
+        ),
+        RtOp::Not(t) => push_difference(
+            ops,
+            temporary(t),
+            twice(255, temporary(t)),
+            held_in(temporary(t)),
+        ),
         RtOp::Narrow(held, t) => push_extension(ops, held, temporary(t)),
-        RtOp::Bin { operator, left, right } => push_operator(ops, operator, temporary(left), temporary(right)),
+        RtOp::Bin {
+            operator,
+            left,
+            right,
+        } => push_operator(ops, operator, temporary(left), temporary(right)),
         RtOp::Shl(bits, t) => push_shift_left(ops, bits, temporary(t)),
         RtOp::Shr(bits, keeps_sign, t) => push_shift_right(ops, bits, keeps_sign, temporary(t)),
         RtOp::Load(held, t) => push_load(alloc, ops, held, temporary(t)),
-        RtOp::Store { held, address, value } => push_store(alloc, ops, held, temporary(address), temporary(value)),
+        RtOp::Store {
+            held,
+            address,
+            value,
+        } => push_store(alloc, ops, held, temporary(address), temporary(value)),
         RtOp::ReadPort(t) => push_port_reading(ops, temporary(t)),
         RtOp::WritePort(t) => push_port_writing(ops, temporary(t)),
-        RtOp::Arg { held, first_byte, temporary: t } => push_moves(ops, held, argument(first_byte), temporary(t)),
+        RtOp::Arg {
+            held,
+            first_byte,
+            temporary: t,
+        } => push_moves(ops, held, argument(first_byte), temporary(t)),
         RtOp::Result(held, t) => push_reading(ops, held, temporary(t), argument(0)),
-        RtOp::Test { temporary: t, on_true: _, on_false: _ } => push_joined(ops, scratch(), temporary(t)),
+        RtOp::Test {
+            temporary: t,
+            on_true: _,
+            on_false: _,
+        } => push_joined(ops, scratch(), temporary(t)),
         RtOp::ReturnValue(t) => push_result(ops, result_held, temporary(t)),
         RtOp::Call(_) | RtOp::Label(_) | RtOp::Return => Ok(()),
     }
@@ -144,7 +197,11 @@ fn exit_of(op: RtOp, next: u32) -> Exit<Vreg>
     match op {
         RtOp::Call(function) => Exit::Call(function, next),
         RtOp::Label(label) => Exit::Label(label, next),
-        RtOp::Test { temporary: _, on_true, on_false } => Exit::Test(scratch(), on_true, on_false),
+        RtOp::Test {
+            temporary: _,
+            on_true,
+            on_false,
+        } => Exit::Test(scratch(), on_true, on_false),
         RtOp::Return => Exit::Return,
         RtOp::ReturnValue(_) => Exit::Return,
         _ => Exit::Next(next),

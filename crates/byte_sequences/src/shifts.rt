@@ -42,7 +42,12 @@ pub fn push_half(ops: &mut Ops<Vreg>, keeps_sign: bool, word: Word) -> Result<()
 
 /// The word is shifted right by so many bits. It keeps its sign where the flag is true.
 #[tactic(auto, using(crate::proofs::Pushes::growing))]
-pub fn push_shift_right(ops: &mut Ops<Vreg>, bits: u8, keeps_sign: bool, word: Word) -> Result<(), NoMemory>
+pub fn push_shift_right(
+    ops: &mut Ops<Vreg>,
+    bits: u8,
+    keeps_sign: bool,
+    word: Word,
+) -> Result<(), NoMemory>
     ensures { OnOk result (ops_of ops.new ≡ ops_of ops.old ++ spec.shift_right bits keeps_sign (vregs word)) }
 {
     for _ in 0..bits {

@@ -233,10 +233,13 @@ module _ (p : TypedProgram Label) (f : Function Label) (S : Shape) (d : ℕ) (fi
   -- ---- variables
 
   block_points : (slot call a : ℕ) → call < st.made → ((bl : Block) → slice_get S.blocks slot ≡ Some bl → bl.call ≡ call → S.address bl.begin ≡ a) → Points S st.made (v.Pointer (record { slot = slot; call = call; offset = 0 })) (a % 65536)
-  block_points slot call a old at = (old, λ bl is same.
-      let q = at bl is same in
-      let b = (block_ends d S fits slot bl is).1 in
-      (omega arith, omega arith))
+  block_points slot call a old at = (
+    old,
+    λ bl is same.
+        let q = at bl is same in
+        let b = (block_ends d S fits slot bl is).1 in
+        (omega arith, omega arith),
+  )
 
   home_place : (home : Home) (T : CType) (a : ℕ) → IsAtHome p f home T a → PlaceIs (Ok (e.home_position home st.frame)) (m.Const a)
   home_place (h.Global b) T a is = (block_points b 0 a located.some (λ bl i same. located.global b a is bl i same), tt)
@@ -316,7 +319,6 @@ module _ (p : TypedProgram Label) (f : Function Label) (S : Shape) (d : ℕ) (fi
   typed_number (Cast T left words right a) ty n is = absurd (none-some n is)
   typed_number (Index T base left index right) ty n is = absurd (none-some n is)
   typed_number (Select T a operator at name offset) ty n is = absurd (none-some n is)
-
 
   any_pointer : (T U : CType) (r : Answer) (n : ℕ) (rs : List ℕ) → Means S st.made d (Pointer T) r n rs → Means S st.made d (Pointer U) r n rs
   any_pointer T U (Err k) n rs h = tt
@@ -526,7 +528,7 @@ module _ (p : TypedProgram Label) (f : Function Label) (S : Shape) (d : ℕ) (fi
   -- a comparison whose answer is a test
   tested : (operator : BinaryOperator) (L K : CType) (I J : Option IntegerType) (ln rn : Option ℕ) (q r : Answer) (a b : m.CmExpr) (TL TK : CType) → Means S st.made d TL q (V a) (R a) → Means S st.made d TK r (V b) (R b)
       → ((y z : Value) → q ≡ Ok y → r ≡ Ok z → Reps S st.made TL y (V a) → Reps S st.made TK z (V b)
-          → CountsTo Two true (operated_by p.structs st.memory operator L K I J y z) (V (t.operation None operator (record { integer = I; number = ln }) (record { integer = J; number = rn }) a b)))
+      → CountsTo Two true (operated_by p.structs st.memory operator L K I J y z) (V (t.operation None operator (record { integer = I; number = ln }) (record { integer = J; number = rn }) a b)))
       → BothIs int operator L K I J ln rn q r a b
   tested operator L K I J ln rn q r a b TL TK hq hr go =
       both_ok S st.made d TL TK int q r (operated_by p.structs st.memory operator L K I J) (V a) (V b) _ (R a) (R b) _ hq hr (λ y z ey ez hy hz rs rs'.

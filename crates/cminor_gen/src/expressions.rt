@@ -101,11 +101,7 @@ fn base(
 
 /// The address of a place.
 #[cycle(value)]
-pub fn place(
-    alloc: Global,
-    program: &TypedProgram<Label>,
-    e: &Expr,
-) -> Result<CmExpr, NoMemory>
+pub fn place(alloc: Global, program: &TypedProgram<Label>, e: &Expr) -> Result<CmExpr, NoMemory>
     ensures { IfOk result (λ r. cm_of r ≡ x.place (program_of program.now) (expr_of e.now)) }
 {
     match e {
@@ -127,11 +123,7 @@ pub fn place(
 
 /// The value of an expression.
 #[cycle(value)]
-pub fn value(
-    alloc: Global,
-    program: &TypedProgram<Label>,
-    e: &Expr,
-) -> Result<CmExpr, NoMemory>
+pub fn value(alloc: Global, program: &TypedProgram<Label>, e: &Expr) -> Result<CmExpr, NoMemory>
     ensures { IfOk result (λ r. cm_of r ≡ x.value (program_of program.now) (expr_of e.now)) }
 {
     match e {

@@ -57,11 +57,7 @@ fn add_home(
 }
 
 // The same for each of these variables.
-fn add_homes(
-    alloc: Global,
-    variables: &[Variable],
-    list: &mut Vec<CmStmt>,
-) -> Result<(), NoMemory>
+fn add_homes(alloc: Global, variables: &[Variable], list: &mut Vec<CmStmt>) -> Result<(), NoMemory>
     ensures { OnOk result (cm_stmts_of list.new.items ≡ s.homes_after (map variable_of variables.now) 0 (cm_stmts_of list.old.items)) }
 {
     let mut number = 0_u32;
@@ -156,7 +152,11 @@ fn add_initialisers(
 fn result_of(ty: &Ty) -> Option<Held>
     ensures { result ≡ s.result_of (type_of ty.now) }
 {
-    if ty.is_scalar() { Some(held_of(ty)) } else { None }
+    if ty.is_scalar() {
+        Some(held_of(ty))
+    } else {
+        None
+    }
 }
 
 // The body of a function, after what its declarations do.

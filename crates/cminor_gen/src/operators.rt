@@ -354,12 +354,7 @@ fn shift_left(alloc: Global, k: u8, value: CmExpr) -> Result<CmExpr, NoMemory>
     Ok(CmExpr::Shl(k, Box::new(alloc, value)?))
 }
 
-fn shift_right(
-    alloc: Global,
-    k: u8,
-    arithmetic: bool,
-    value: CmExpr,
-) -> Result<CmExpr, NoMemory>
+fn shift_right(alloc: Global, k: u8, arithmetic: bool, value: CmExpr) -> Result<CmExpr, NoMemory>
     ensures { IfOk result (λ e. cm_of e ≡ m.Shr k arithmetic (cm_of value)) }
 {
     Ok(CmExpr::Shr(k, arithmetic, Box::new(alloc, value)?))

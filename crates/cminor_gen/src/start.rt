@@ -66,12 +66,7 @@ fn bytes(size: Size) -> u8
 }
 
 // Adds so many bytes of a number, from an address on.
-fn add_bytes(
-    count: u8,
-    address: u16,
-    bits: u32,
-    start: &mut StartBytes,
-) -> Result<(), NoMemory>
+fn add_bytes(count: u8, address: u16, bits: u32, start: &mut StartBytes) -> Result<(), NoMemory>
     ensures { OnOk result (start.new ≡ start.old ++ s.bytes_from count address bits) }
 {
     if count == 0 {
@@ -127,7 +122,13 @@ fn add_global(
 {
     match ty {
         Ty::Array(element, count) => {
-            add_integers_if_any(IntegerType::of(element), initialiser, *count, address, start)
+            add_integers_if_any(
+                IntegerType::of(element),
+                initialiser,
+                *count,
+                address,
+                start,
+            )
         }
         _ => add_integers_if_any(IntegerType::of(ty), initialiser, 1, address, start),
     }
@@ -154,9 +155,7 @@ fn add_item(
             }
             match variable_type(program, *number) {
                 None => Ok(()),
-                Some(ty) => {
-                    add_global(ty, &global.initialiser, program.address(*number), start)
-                }
+                Some(ty) => { add_global(ty, &global.initialiser, program.address(*number), start) }
             }
         }
         Item::Struct(_) => Ok(()),

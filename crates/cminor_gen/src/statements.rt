@@ -231,11 +231,7 @@ fn condition_if_any(
 
 // One statement and then another.
 #[tactic(auto, using(crate::proofs::Rows::one_more))]
-fn both(
-    alloc: Global,
-    one: Box<CmStmt>,
-    other: Box<CmStmt>,
-) -> Result<Box<CmStmt>, NoMemory>
+fn both(alloc: Global, one: Box<CmStmt>, other: Box<CmStmt>) -> Result<Box<CmStmt>, NoMemory>
     ensures { IfOk result (λ r. cm_stmt_of r.value ≡ m.Seq (m.Then (m.Then m.NoStmts (cm_stmt_of one.value)) (cm_stmt_of other.value))) }
 {
     let mut list = Vec::new(alloc);

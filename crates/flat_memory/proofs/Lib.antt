@@ -4,5 +4,4 @@ pub mod Shapes
 pub mod Loads
 pub mod Pointers
 pub mod Integers
-
 pub mod Blocks

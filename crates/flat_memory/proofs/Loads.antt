@@ -151,12 +151,12 @@ module _ (S : Shape) (made d : ℕ) (fits : Fits d S) where
 
   pub each_byte : (i : ℕ) (T : CType) → i < S.count → S.kind i ≡ Some T → EachWithin d (held_addresses (held_of T) (S.address i))
   each_byte i T lt is = all_within _ (λ a e.
-    let b = byte_of i T lt is a e in
-    let at = b.2 in
-    let lo = fits.low b.0 b.1 in
-    let hi = fits.high b.0 b.1 in
-    let bd = fits.bound in
-    (omega arith, omega arith))
+      let b = byte_of i T lt is a e in
+      let at = b.2 in
+      let lo = fits.low b.0 b.1 in
+      let hi = fits.high b.0 b.1 in
+      let bd = fits.bound in
+      (omega arith, omega arith))
 
   -- two scalars at different cells have no address in common
   no_common : (i j : ℕ) (T U : CType) → i < S.count → j < S.count → S.kind i ≡ Some T → S.kind j ≡ Some U → j ≢ i → (a : ℕ) → In a (held_addresses (held_of U) (S.address j)) → In a (held_addresses (held_of T) (S.address i)) → ⊥
@@ -212,12 +212,14 @@ module _ (S : Shape) (made d : ℕ) (fits : Fits d S) where
 
     written : (T : CType) (w : Value) (n x i : ℕ) (c : Cell) → Reps S made T w x → i < S.count → S.address i ≡ n → slice_get m.cells i ≡ Some c → c.kind ≡ Some T → S.kind i ≡ Some T
         → StoreOk T n x (Ok (record m { cells = slice_set m.cells i (record c { value = Some w }) }))
-    written T w n x i c hw lt a e ck is =
-        (record {
-          blocks = keeps.blocks;
-          count = length_set m.cells i _ ∙ keeps.count;
-          cell = λ j c' e'. by_place j c' e' (nat_eq j i) refl;
-        }, subst (λ b. EachWithin d (held_addresses (held_of T) b)) a (each_byte i T lt is))
+    written T w n x i c hw lt a e ck is = (
+      record {
+        blocks = keeps.blocks;
+        count = length_set m.cells i _ ∙ keeps.count;
+        cell = λ j c' e'. by_place j c' e' (nat_eq j i) refl;
+      },
+      subst (λ b. EachWithin d (held_addresses (held_of T) b)) a (each_byte i T lt is),
+    )
       where
         c2 : Cell
         c2 = record c { value = Some w }
@@ -242,11 +244,12 @@ module _ (S : Shape) (made d : ℕ) (fits : Fits d S) where
             by_width (Struct k) q = two (q tt)
 
         there : (c2.kind ≡ S.kind i) × Holds S made (put_ram (held_of T) ram n x) (S.address i) c2.kind (Some w)
-        there =
-            (ck ∙ sym is,
-            subst (λ k. Holds S made (put_ram (held_of T) ram n x) (S.address i) k (Some w)) (sym ck)
-            (subst (λ b. Reps S made T w (in_ram (held_of T) (put_ram (held_of T) ram n x) b)) (sym a)
-            (subst (Reps S made T w) (sym (ram_back (held_of T) ram n x fit)) (kept_reps d S fits made T w x hw))))
+        there = (
+          ck ∙ sym is,
+          subst (λ k. Holds S made (put_ram (held_of T) ram n x) (S.address i) k (Some w)) (sym ck)
+              (subst (λ b. Reps S made T w (in_ram (held_of T) (put_ram (held_of T) ram n x) b)) (sym a)
+              (subst (Reps S made T w) (sym (ram_back (held_of T) ram n x fit)) (kept_reps d S fits made T w x hw))),
+        )
 
         others : (j : ℕ) → j < S.count → j ≢ i → (k : Option CType) (u : Option Value) → k ≡ S.kind j → Holds S made ram (S.address j) k u → Holds S made (put_ram (held_of T) ram n x) (S.address j) k u
         others j jt ne None u ke hold = tt

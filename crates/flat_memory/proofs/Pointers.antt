@@ -115,9 +115,11 @@ module _ (S : Shape) (made d : ℕ) (fits : Fits d S) where
       let q1 = q.1 in
       let h1 = h.1 in
       let h2 = h.2 in
-      let is : n' + by ≡ n = moves (omega arith) (omega arith) in
-      (old, λ b' is' same.
-      subst (λ (z : Block). (at.offset - by ≤ z.size) × (n' ≡ S.address z.begin + (at.offset - by))) (same_Some _ _ (sym h.0 ∙ is')) (omega arith, omega arith)))
+      let is : n' + by ≡ n = moves (omega arith) (omega arith) in (
+        old,
+        λ b' is' same.
+            subst (λ (z : Block). (at.offset - by ≤ z.size) × (n' ≡ S.address z.begin + (at.offset - by))) (same_Some _ _ (sym h.0 ∙ is')) (omega arith, omega arith),
+      ))
   moved_in_ok at false by n n' old (Ok b) h moves =
       by_test (λ r. PointsTo S made r n') (nat_lt b.size (at.offset + by)) (Err Outside) _ (λ e. tt) (λ e.
       let le = not_below _ _ e in
@@ -125,9 +127,11 @@ module _ (S : Shape) (made d : ℕ) (fits : Fits d S) where
       let q1 = q.1 in
       let h1 = h.1 in
       let h2 = h.2 in
-      let is : n' ≡ n + by = moves (omega arith) in
-      (old, λ b' is' same.
-      subst (λ (z : Block). (at.offset + by ≤ z.size) × (n' ≡ S.address z.begin + (at.offset + by))) (same_Some _ _ (sym h.0 ∙ is')) (omega arith, omega arith)))
+      let is : n' ≡ n + by = moves (omega arith) in (
+        old,
+        λ b' is' same.
+            subst (λ (z : Block). (at.offset + by ≤ z.size) × (n' ≡ S.address z.begin + (at.offset + by))) (same_Some _ _ (sym h.0 ∙ is')) (omega arith, omega arith),
+      ))
 
   pub moved_ok : (m : Memory) → m.blocks ≡ S.blocks → (p : Value) (back : Bool) (by n n' : ℕ) → Points S made p n → Moves back by n n' → PointsTo S made (moved m p back by) n'
   moved_ok m same (v.Integer x) back by n n' h moves = absurd h

@@ -147,13 +147,15 @@ pub kept_points : (d : ℕ) (S : Shape) → Fits d S → (made : ℕ) (T : CType
 unfolding kept
 kept_points d S fits made T (v.Integer x) n h = absurd h
 kept_points d S fits made T v.Null n h = omega arith
-kept_points d S fits made T (v.Pointer at) n h =
-    (h.0, λ b is same.
+kept_points d S fits made T (v.Pointer at) n h = (
+  h.0,
+  λ b is same.
       let k = h.1 b is same in
       let k0 = k.0 in
       let k1 = k.1 in
       let e = (block_ends d S fits at.slot b is).1 in
-      (k.0, omega arith))
+      (k.0, omega arith),
+)
 
 pub kept_reps : (d : ℕ) (S : Shape) → Fits d S → (made : ℕ) (T : CType) (w : Value) (n : ℕ) → Reps S made T w n → Reps S made T w (kept (held_of T) n)
 kept_reps d S fits made Void w n h = absurd h

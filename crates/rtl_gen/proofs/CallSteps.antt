@@ -118,8 +118,8 @@ module _ (p : RtLabs) (d : ℕ) where
         let run = passed p d k ks slots result shared w labelled fine inside o None last.0 is stand ops within in
         let end : State = state (map (byte_call p) ks) run.shared' w in
         returned_to all_labelled m0 k.index f fine.is ks fine.waits fine.few slots result run.shared' w run.shared_bytes run.world_bytes
-            (λ h has. absurd (none-some h (sym none ∙ has)))
-            (left_to p d k ks slots result shared w labelled fine inside o None last.0 is stand ops within run end refl waiting_few)
+        (λ h has. absurd (none-some h (sym none ∙ has)))
+        (left_to p d k ks slots result shared w labelled fine inside o None last.0 is stand ops within run end refl waiting_few)
 
     -- the result in its place
     result_moved : (h : Held) (t : ℕ) → f.result ≡ Some h
@@ -146,11 +146,11 @@ module _ (p : RtLabs) (d : ℕ) where
         let end : State = state (map (byte_call p) ks) run.shared' w in
         let result' = returned f.result (k.temps t) result in
         returned_to all_labelled m0 k.index f fine.is ks fine.waits fine.few slots result' run.shared' w run.shared_bytes (subst IsByteWorld moved.1 run.world_bytes)
-            (λ g has'.
-                let same : h ≡ g = same_Some h g (sym has ∙ has') in
-                subst (λ z. scalar_in z 12 run.shared' ≡ result') same
-                    (scalar_alike h 12 c1.see run.shared' (λ r from below. run.shared_is r (near r (some_bytes h) below)) ∙ moved.0 ∙ sym (ap (λ z. returned z (k.temps t) result) has)))
-            (left_to p d k ks slots result shared w labelled fine inside o None last.0 is stand ops within run end (ap (λ w'. state (map (byte_call p) ks) run.shared' w') moved.1) waiting_few)
+        (λ g has'.
+        let same : h ≡ g = same_Some h g (sym has ∙ has') in
+        subst (λ z. scalar_in z 12 run.shared' ≡ result') same
+        (scalar_alike h 12 c1.see run.shared' (λ r from below. run.shared_is r (near r (some_bytes h) below)) ∙ moved.0 ∙ sym (ap (λ z. returned z (k.temps t) result) has)))
+        (left_to p d k ks slots result shared w labelled fine inside o None last.0 is stand ops within run end (ap (λ w'. state (map (byte_call p) ks) run.shared' w') moved.1) waiting_few)
       where
         near : (r : ℕ) → ((1 ≤ held_bytes h) × (held_bytes h ≤ 2)) → r < 12 + held_bytes h → r < 24
         near r few below = let most = few.1 in omega (arith, most, below)
@@ -193,13 +193,16 @@ module _ (p : RtLabs) (d : ℕ) where
             own_bytes = λ r far. omega arith;
             shared_bytes = run.shared_bytes;
             world_bytes = run.world_bytes;
-            waits = (record {
-              is = fine.is;
-              holds = holds_alike f.held k.temps k.vars c0.see run.own' (holds0 p d k ks slots result shared w labelled fine inside) (λ s far. run.own_is s (omega (arith, far)));
-              bytes = run.own_bytes;
-              call = k.node;
-              calls = is;
-            }, fine.waits);
+            waits = (
+              record {
+                is = fine.is;
+                holds = holds_alike f.held k.temps k.vars c0.see run.own' (holds0 p d k ks slots result shared w labelled fine inside) (λ s far. run.own_is s (omega (arith, far)));
+                bytes = run.own_bytes;
+                call = k.node;
+                calls = is;
+              },
+              fine.waits,
+            );
             few = few;
           };
         }
@@ -228,22 +231,22 @@ module _ (p : RtLabs) (d : ℕ) where
         let has = seen_bytes k.own shared w1 fine.own_bytes fine.shared_bytes world1 in
         let at_new : State = state (call_at G k.index new k.own ∷ others) shared w1 in
         let first : Run (target p d) d (byte_state p (runs k ks slots result shared w)) at_new =
-            subst (λ (n : Node ℕ). Run (target p d) d (state (in_node k.index k.node n.ops k.own ∷ others) shared w) at_new) (sym here')
-                (leaves G p.main p.start d k.index k.node k.own shared others w at_new (ap (λ (n : Node ℕ). exit_step shares_first G n.exit k.index k.own others shared w) here') few) in
+        subst (λ (n : Node ℕ). Run (target p d) d (state (in_node k.index k.node n.ops k.own ∷ others) shared w) at_new) (sym here')
+        (leaves G p.main p.start d k.index k.node k.own shared others w at_new (ap (λ (n : Node ℕ). exit_step shares_first G n.exit k.index k.own others shared w) here') few) in
         let within : EachWithin d (all_touched code c0) = subst (EachWithin d) (sym (calm_none code c0 (calm_entry f.held f.params))) tt in
         let ran = ops_run G p.main p.start d code k.index new k.own shared others c0 (λ s. refl) within few in
         let e = entered f.held f.params fresh.given c0 few_bytes
-            (λ a among. let low = (from_first (take f.params f.held) 0 a among).1 in scalar_alike a.held (12 + a.first_byte) shared c0.see (λ r from below. seen_shared shared k.own r (omega (arith, low, few_bytes, below))) ∙ fresh.parameters a among)
-            (λ r far. seen_own shared k.own r far ∙ fresh.own_are r far) has in
+        (λ a among. let low = (from_first (take f.params f.held) 0 a among).1 in scalar_alike a.held (12 + a.first_byte) shared c0.see (λ r from below. seen_shared shared k.own r (omega (arith, low, few_bytes, below))) ∙ fresh.parameters a among)
+        (λ r far. seen_own shared k.own r far ∙ fresh.own_are r far) has in
         let c1 : Cpu = all_done code c0 in
         let has1 = all_done_has_bytes code c0 (calm_bytes code (calm_entry f.held f.params)) has in
         let own_is : (s : ℕ) → 24 ≤ s → ran.own' (Loc s) ≡ byte c1 s = λ s far. sym (seen_own ran.shared' ran.own' s far) ∙ ran.alike (Loc s) in
         let shared_is : (s : ℕ) → s < 24 → ran.shared' (Loc s) ≡ byte c1 s = λ s near. sym (seen_shared ran.shared' ran.own' s near) ∙ ran.alike (Loc s) in
         let end : State = state (call_at G k.index q ran.own' ∷ others) ran.shared' w1 in
         let second : Run (target p d) d at_new end =
-            subst (λ (n : Node ℕ). Run (target p d) d (state (in_node k.index new n.ops k.own ∷ others) shared w1) end) (sym there)
-                (joined ran.run (leaves G p.main p.start d k.index new ran.own' ran.shared' others c1.world end
-                    (ap (λ (n : Node ℕ). exit_step shares_first G n.exit k.index ran.own' others ran.shared' c1.world) there ∙ ap (λ w'. state (call_at G k.index q ran.own' ∷ others) ran.shared' w') e.world) few)) in
+        subst (λ (n : Node ℕ). Run (target p d) d (state (in_node k.index new n.ops k.own ∷ others) shared w1) end) (sym there)
+        (joined ran.run (leaves G p.main p.start d k.index new ran.own' ran.shared' others c1.world end
+        (ap (λ (n : Node ℕ). exit_step shares_first G n.exit k.index ran.own' others ran.shared' c1.world) there ∙ ap (λ w'. state (call_at G k.index q ran.own' ∷ others) ran.shared' w') e.world) few)) in
         let node : RtNode = record { op = op.Label l; next = Some q } in
         record {
           next = runs (record k { node = q; own = ran.own' }) ks slots result ran.shared' w1;
@@ -254,7 +257,7 @@ module _ (p : RtLabs) (d : ℕ) where
             place = inl (record {
               holds = subst (λ ts. Holds f.held ts k.vars ran.own') (sym fresh.temps_are)
                   (subst (λ vs. Holds f.held all_zero vs ran.own') (sym fresh.vars_are) (holds_alike f.held all_zero (first_variables f.held f.params fresh.given) c1.see ran.own' e.holds (λ s far. own_is s (omega (arith, far))))
-                    );
+                  );
               away = λ e'. labelled.entry_alone k.node (leads f k.node f.entry node is (inl e'));
               arguments = [];
               path = further k.node q node [] (subst (λ z. HandsOver f z []) (sym fresh.at_entry) at_entry) is refl (inl refl);

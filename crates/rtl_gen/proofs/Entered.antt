@@ -71,8 +71,8 @@ taken_is held (h ∷ hs) x first given vars c fits few parameters holds has =
     let has1 = all_done_has_bytes ops c (calm_bytes ops (calm_moves h (25 + 4 * x) (12 + first))) has in
     let near1 : (r : ℕ) → r < 25 → byte c1 r ≡ byte c r = λ r near. m.1 r (off_scalar h r (25 + 4 * x) (inl (omega (arith, near)))) in
     let rest = taken_is held hs (x + 1) (first + held_bytes h) given (update vars x (given first)) c1 fits_rest (omega (arith, few))
-        (λ a is. let low = (from_first hs (first + held_bytes h) a is).1 in scalar_alike a.held (12 + a.first_byte) c.see c1.see (λ r from below. near1 r (omega (arith, low, few, below))) ∙ parameters a (contains_rest a is))
-        holds1 has1 in
+    (λ a is. let low = (from_first hs (first + held_bytes h) a is).1 in scalar_alike a.held (12 + a.first_byte) c.see c1.see (λ r from below. near1 r (omega (arith, low, few, below))) ∙ parameters a (contains_rest a is))
+    holds1 has1 in
     let joined' : all_done (taken number (h ∷ hs) x first) c ≡ all_done more c1 = all_done_append ops more c in
     let R : Cpu → Type 0 = λ z. Holds held all_zero (taken_over hs (suc x) (first + held_bytes h) given (update vars x (given first))) z.see in
     record {

@@ -70,9 +70,10 @@ times_append l (x ∷ xs) ys = ap (λ n. if nat_eq x l then suc n else n) (times
 
 none_twice : (xs : List ℕ) → ((l : ℕ) → times_in l xs ≤ 1) → NoneTwice xs
 none_twice [] few = tt
-none_twice (n ∷ ns) few =
-    (λ i. let one = times_one n ns i in let here = times_here n n ns refl in let most = few n in omega (arith, one, here, most),
-      none_twice ns (λ l. let most = few l in let more = times_more l n ns in omega (arith, most, more)))
+none_twice (n ∷ ns) few = (
+  λ i. let one = times_one n ns i in let here = times_here n n ns refl in let most = few n in omega (arith, one, here, most),
+  none_twice ns (λ l. let most = few l in let more = times_more l n ns in omega (arith, most, more)),
+)
 
 all_of_in : (P : ℕ → Type 0) (xs : List ℕ) → ((x : ℕ) → In x xs → P x) → AllByRecursion P xs
 all_of_in P [] each = tt
@@ -183,9 +184,10 @@ module _ (f : RtFunction) (exist : NodesExist f) (goes : PathsGoOn f) where
       → AllByRecursion (λ n. AllByRecursion (λ q. q < length f.nodes + 1) (exit_nodes n.exit)) (nodes_from vreg f new p nodes)
   nodes_exits new p [] each = tt
   nodes_exits new p (node ∷ nodes) each =
-      let e : p + 0 ≡ p = omega arith in
-      (subst (λ n. AllByRecursion (λ q. q < length f.nodes + 1) (exit_nodes (operation_exit vreg node.op (next_of f.entry new n node.next)))) e (each 0 node refl),
-        nodes_exits new (p + 1) nodes (λ i m is. let e' : p + suc i ≡ p + 1 + i = omega arith in subst (λ n. AllByRecursion (λ q. q < length f.nodes + 1) (exit_nodes (operation_exit vreg m.op (next_of f.entry new n m.next)))) e' (each (suc i) m is)))
+      let e : p + 0 ≡ p = omega arith in (
+        subst (λ n. AllByRecursion (λ q. q < length f.nodes + 1) (exit_nodes (operation_exit vreg node.op (next_of f.entry new n node.next)))) e (each 0 node refl),
+        nodes_exits new (p + 1) nodes (λ i m is. let e' : p + suc i ≡ p + 1 + i = omega arith in subst (λ n. AllByRecursion (λ q. q < length f.nodes + 1) (exit_nodes (operation_exit vreg m.op (next_of f.entry new n m.next)))) e' (each (suc i) m is)),
+      )
 
   entry_below : entry_next f < length f.nodes + 1
   entry_below =
@@ -199,10 +201,10 @@ module _ (f : RtFunction) (exist : NodesExist f) (goes : PathsGoOn f) where
       let count = (function_kept f).nodes in
       let entry = exist.0 in
       let each : (i : ℕ) (node : RtNode) → slice_get f.nodes i ≡ Some node → AllByRecursion (λ q. q < length f.nodes + 1) (exit_nodes (operation_exit vreg node.op (next_of f.entry (length f.nodes) (0 + i) node.next))) =
-          λ i node is.
-              let e : i ≡ 0 + i = omega arith in
-              subst (λ n. AllByRecursion (λ q. q < length f.nodes + 1) (exit_nodes (operation_exit vreg node.op (next_of f.entry (length f.nodes) n node.next)))) e
-                  (exits_below node.op node.next (next_of f.entry (length f.nodes) i node.next) (length f.nodes + 1) (goes_below i node is) (λ q named. let less = exist.1 i node is q named in omega (arith, less))) in
+      λ i node is.
+      let e : i ≡ 0 + i = omega arith in
+      subst (λ n. AllByRecursion (λ q. q < length f.nodes + 1) (exit_nodes (operation_exit vreg node.op (next_of f.entry (length f.nodes) n node.next)))) e
+      (exits_below node.op node.next (next_of f.entry (length f.nodes) i node.next) (length f.nodes + 1) (goes_below i node is) (λ q named. let less = exist.1 i node is q named in omega (arith, less))) in
       record {
         entry = omega (arith, count, entry);
         exits = subst (λ n. AllByRecursion (λ m. AllByRecursion (λ q. q < n) (exit_nodes m.exit)) (translated_function vreg f).nodes) (sym count)
@@ -216,18 +218,18 @@ callers_found [] called i = absurd i
 callers_found (c ∷ calls) called i = ⊎_elim
     (λ e. (0, c, refl, e.1, ap (λ b. if b then c.callers else callers_of calls called) e.0))
     (λ e. ⊎_elim
-        (λ same. absurd (e.1 same))
-        (λ later. let rest = callers_found calls called later in (suc rest.0, rest.1, rest.2, rest.3, ap (λ b. if b then c.callers else callers_of calls called) e.0 ∙ rest.4))
-        i)
+    (λ same. absurd (e.1 same))
+    (λ later. let rest = callers_found calls called later in (suc rest.0, rest.1, rest.2, rest.3, ap (λ b. if b then c.callers else callers_of calls called) e.0 ∙ rest.4))
+    i)
     (eqb_tells c.function called)
 
 callees_named : (P : ℕ → Type 0) (nodes : List RtNode) → ((i : ℕ) (node : RtNode) → slice_get nodes i ≡ Some node → (g : ℕ) → In g (callees_at node.op) → P g) → AllByRecursion P (callees_of nodes)
 callees_named P [] each = tt
 callees_named P (node ∷ nodes) each =
     subst (AllByRecursion P) (exit_callee node.op 0 (callees_of nodes))
-        (all_append P (exit_functions (operation_exit vreg node.op 0)) (callees_of nodes)
-            (subst (AllByRecursion P) (sym (sym (append-nil (exit_functions (operation_exit vreg node.op 0))) ∙ exit_callee node.op 0 [])) (all_of_in P (callees_at node.op) (each 0 node refl)))
-            (callees_named P nodes (λ i n is. each (suc i) n is)))
+    (all_append P (exit_functions (operation_exit vreg node.op 0)) (callees_of nodes)
+    (subst (AllByRecursion P) (sym (sym (append-nil (exit_functions (operation_exit vreg node.op 0))) ∙ exit_callee node.op 0 [])) (all_of_in P (callees_at node.op) (each 0 node refl)))
+    (callees_named P nodes (λ i n is. each (suc i) n is)))
 
 module _ (p : RtLabs) (wf : IsWellFormed p) where
   in_order : (f : ℕ) → f < length p.functions → In f (functions_of p.calls)
@@ -251,10 +253,11 @@ module _ (p : RtLabs) (wf : IsWellFormed p) where
   callers_from : (first : ℕ) (fs : List RtFunction) → ((k : ℕ) (f : RtFunction) → slice_get fs k ≡ Some f → AllByRecursion (λ called. In (first + k) (callers_of p.calls called)) (callees_of f.nodes)) → AreCallersFrom p.calls first (map (translated_function vreg) fs)
   callers_from first [] each = tt
   callers_from first (f ∷ fs) each =
-      let e : first + 0 ≡ first = omega arith in
-      (subst (λ n. AllByRecursion (λ called. In n (callers_of p.calls called)) (functions_in (translated_function vreg f))) e
-          (subst (AllByRecursion (λ called. In (first + 0) (callers_of p.calls called))) (sym (function_kept f).calls) (each 0 f refl)),
-        callers_from (suc first) fs (λ k g is. let e' : first + suc k ≡ suc first + k = omega arith in subst (λ n. AllByRecursion (λ called. In n (callers_of p.calls called)) (callees_of g.nodes)) e' (each (suc k) g is)))
+      let e : first + 0 ≡ first = omega arith in (
+        subst (λ n. AllByRecursion (λ called. In n (callers_of p.calls called)) (functions_in (translated_function vreg f))) e
+            (subst (AllByRecursion (λ called. In (first + 0) (callers_of p.calls called))) (sym (function_kept f).calls) (each 0 f refl)),
+        callers_from (suc first) fs (λ k g is. let e' : first + suc k ≡ suc first + k = omega arith in subst (λ n. AllByRecursion (λ called. In n (callers_of p.calls called)) (callees_of g.nodes)) e' (each (suc k) g is)),
+      )
 
   -- ---- all graphs
 

@@ -125,4 +125,4 @@ pub all_handed : (hs : List Held) (arguments : List Argument) (slots : Values) (
     → (a : Argument) → Contains (arguments_from 0 hs) a → place_value a shared ≡ slots a.first_byte
 all_handed hs arguments slots shared permuted handed a is =
     handed a (Contains-permutation (arguments_from 0 hs) arguments a permuted is)
-        (λ b among. arguments_apart hs 0 a b is (Contains-permutation arguments (arguments_from 0 hs) b (IsPermutation-sym (arguments_from 0 hs) arguments permuted) among))
+    (λ b among. arguments_apart hs 0 a b is (Contains-permutation arguments (arguments_from 0 hs) b (IsPermutation-sym (arguments_from 0 hs) arguments permuted) among))

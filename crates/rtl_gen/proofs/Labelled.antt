@@ -92,11 +92,12 @@ module _ (f : RtFunction) (exist : NodesExist f) (goes : PathsGoOn f) (labelled 
       let flow : flow_graph f f.entry ≡ Some (node_kind node) = ap (λ (n : Option RtNode). option_map node_kind n) is in
       let k = entry_kind f.held f.result node.op node.next new (subst IsLabelNode flow labelled.entry_marked) (goes f.entry node is) in
       let q = k.1.0 in
-      let next_is = k.1.1 in
-      (q,
+      let next_is = k.1.1 in (
+        q,
         flow ∙ ap Some k.2 ∙ ap (λ n. Some (LabelNode n)) next_is,
         ap (λ n. next_or f.entry (next_in n)) is ∙ ap (next_or f.entry) next_is,
-        ap kind_or_none (old_node vreg f f.entry node is) ∙ ap (λ r. Some (kind_of (operation_code vreg f.held f.result node.op) (operation_exit vreg node.op r))) (next_entry f.entry new f.entry node.next refl) ∙ ap Some k.0)
+        ap kind_or_none (old_node vreg f f.entry node is) ∙ ap (λ r. Some (kind_of (operation_code vreg f.held f.result node.op) (operation_exit vreg node.op r))) (next_entry f.entry new f.entry node.next refl) ∙ ap Some k.0,
+      )
 
   old_flow : (q : ℕ) (node : RtNode) → IsAt f q node → q ≢ f.entry → flow_of g q ≡ flow_graph f q
   old_flow q node is other =
@@ -121,9 +122,9 @@ module _ (f : RtFunction) (exist : NodesExist f) (goes : PathsGoOn f) (labelled 
   flow_is q = ⊎_elim
       (λ e. ap (flow_of g) e.1 ∙ entry_fact.3 ∙ sym (ap (λ b. node b (nat_eq q new)) e.0))
       (λ e. ⊎_elim
-          (λ e'. ap (flow_of g) e'.1 ∙ ap kind_or_none (new_node vreg f) ∙ sym (ap₂ node e.0 e'.0))
-          (λ e'. elsewhere e.1 e'.1 ∙ sym (ap₂ node e.0 e'.0))
-          (eqb_tells q new))
+      (λ e'. ap (flow_of g) e'.1 ∙ ap kind_or_none (new_node vreg f) ∙ sym (ap₂ node e.0 e'.0))
+      (λ e'. elsewhere e.1 e'.1 ∙ sym (ap₂ node e.0 e'.0))
+      (eqb_tells q new))
       (eqb_tells q f.entry)
     where
       node : Bool → Bool → Option NodeKind

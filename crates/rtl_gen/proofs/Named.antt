@@ -198,8 +198,8 @@ module _ (P : Vreg → Type 0) where
   named_taken [] x first parts places within = tt
   named_taken (h ∷ hs) x first parts places within =
       named_append (moves (held_part h (variable vreg x)) (held_part h (argument vreg first))) (taken vreg hs (x + 1) (first + held_bytes h))
-          (named_moves h (25 + 4 * x) (12 + first) (first_part h hs x parts) (argument_part h first places (omega (arith, within))))
-          (named_taken hs (x + 1) (first + held_bytes h) (rest_parts h hs x parts) places (omega (arith, within)))
+      (named_moves h (25 + 4 * x) (12 + first) (first_part h hs x parts) (argument_part h first places (omega (arith, within))))
+      (named_taken hs (x + 1) (first + held_bytes h) (rest_parts h hs x parts) places (omega (arith, within)))
 
   named_cleared : (hs : List Held) (x : ℕ) → Parts hs x → AllNamed (cleared vreg hs x)
   named_cleared [] x parts = tt
@@ -226,10 +226,10 @@ module _ (P : Vreg → Type 0) where
   named_entry : (held : List Held) (params next : ℕ) → Parts held 0 → ((n : ℕ) → n < 12 → P (vreg (12 + n))) → all_held_bytes (take params held) ≤ 12 → AllByRecursion P (node_locations (entry_node vreg held params next))
   named_entry held params next parts places within =
       all_append P (gathered op_locations (entry_code vreg held params)) []
-          (named_append (taken vreg (take params held) 0 0) (cleared vreg (drop params held) params)
-              (named_taken (take params held) 0 0 (taken_parts params held 0 parts) places (omega (arith, within)))
-              (named_cleared (drop params held) params (dropped_parts params held parts)))
-          tt
+      (named_append (taken vreg (take params held) 0 0) (cleared vreg (drop params held) params)
+      (named_taken (take params held) 0 0 (taken_parts params held 0 parts) places (omega (arith, within)))
+      (named_cleared (drop params held) params (dropped_parts params held parts)))
+      tt
 
   -- ---- the graph
 
@@ -237,17 +237,17 @@ module _ (P : Vreg → Type 0) where
   named_nodes f new p [] each work = tt
   named_nodes f new p (node ∷ nodes) each work =
       all_append P (node_locations (operation_node vreg f.held f.result node.op (next_of f.entry new p node.next))) (gathered node_locations (nodes_from vreg f new (p + 1) nodes))
-          (all_append P (gathered op_locations (operation_code vreg f.held f.result node.op)) (exit_locations (operation_exit vreg node.op (next_of f.entry new p node.next)))
-              (named_code f.held f.result node.op (each 0 node refl)) (named_exit node.op (next_of f.entry new p node.next) work))
-          (named_nodes f new (p + 1) nodes (λ i n is. each (suc i) n is) work)
+      (all_append P (gathered op_locations (operation_code vreg f.held f.result node.op)) (exit_locations (operation_exit vreg node.op (next_of f.entry new p node.next)))
+      (named_code f.held f.result node.op (each 0 node refl)) (named_exit node.op (next_of f.entry new p node.next) work))
+      (named_nodes f new (p + 1) nodes (λ i n is. each (suc i) n is) work)
 
   pub named_graph : (f : RtFunction) → ((i : ℕ) (node : RtNode) → slice_get f.nodes i ≡ Some node → Named f.held node.op) → Parts f.held 0 → ((n : ℕ) → n < 12 → P (vreg (12 + n))) → P (vreg 24)
       → all_held_bytes (take f.params f.held) ≤ 12 → AllByRecursion P (locations_in (translated_function vreg f))
   named_graph f each parts places work within =
       subst (AllByRecursion P) (sym (gathered_append node_locations (nodes_from vreg f (length f.nodes) 0 f.nodes) (entry_node vreg f.held f.params (entry_next f) ∷ [])))
-          (all_append P (gathered node_locations (nodes_from vreg f (length f.nodes) 0 f.nodes)) (gathered node_locations (entry_node vreg f.held f.params (entry_next f) ∷ []))
-              (named_nodes f (length f.nodes) 0 f.nodes each work)
-              (all_append P (node_locations (entry_node vreg f.held f.params (entry_next f))) [] (named_entry f.held f.params (entry_next f) parts places within) tt))
+      (all_append P (gathered node_locations (nodes_from vreg f (length f.nodes) 0 f.nodes)) (gathered node_locations (entry_node vreg f.held f.params (entry_next f) ∷ []))
+      (named_nodes f (length f.nodes) 0 f.nodes each work)
+      (all_append P (node_locations (entry_node vreg f.held f.params (entry_next f))) [] (named_entry f.held f.params (entry_next f) parts places within) tt))
 
 -- ---- the virtual registers of a call's own
 

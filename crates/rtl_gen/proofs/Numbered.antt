@@ -154,8 +154,8 @@ cleared_numbered (h ∷ hs) x =
 entry_numbered : (held : List Held) (params next : ℕ) → renamed_node vreg_number (entry_node vreg held params next) ≡ entry_node number held params next
 entry_numbered held params next =
     ap (λ ops. record { ops = ops; exit = Next next })
-        (map-append (renamed_op vreg_number) (taken vreg (take params held) 0 0) (cleared vreg (drop params held) params)
-        ∙ ap₂ (λ ops more. ops ++ more) (taken_numbered (take params held) 0 0) (cleared_numbered (drop params held) params))
+    (map-append (renamed_op vreg_number) (taken vreg (take params held) 0 0) (cleared vreg (drop params held) params)
+    ∙ ap₂ (λ ops more. ops ++ more) (taken_numbered (take params held) 0 0) (cleared_numbered (drop params held) params))
 
 -- ---- graphs
 
@@ -166,8 +166,8 @@ nodes_numbered f new p (node ∷ nodes) = ap₂ (λ n more. n ∷ more) (node_nu
 pub function_numbered : (f : RtFunction) → renamed_graph vreg_number (translated_function vreg f) ≡ translated_function number f
 function_numbered f =
     ap (λ nodes. record { entry = f.entry; nodes = nodes })
-        (map-append (renamed_node vreg_number) (nodes_from vreg f (length f.nodes) 0 f.nodes) (entry_node vreg f.held f.params (entry_next f) ∷ [])
-        ∙ ap₂ (λ nodes last. nodes ++ last ∷ []) (nodes_numbered f (length f.nodes) 0 f.nodes) (entry_numbered f.held f.params (entry_next f)))
+    (map-append (renamed_node vreg_number) (nodes_from vreg f (length f.nodes) 0 f.nodes) (entry_node vreg f.held f.params (entry_next f) ∷ [])
+    ∙ ap₂ (λ nodes last. nodes ++ last ∷ []) (nodes_numbered f (length f.nodes) 0 f.nodes) (entry_numbered f.held f.params (entry_next f)))
 
 -- the graphs of a translated program by number
 abbrev pub graphs_of : RtLabs → ℕ → Graph ℕ

@@ -98,9 +98,9 @@ module _ (p : RtLabs) (wf : IsWellFormed p) (labelled : OfFunctions p (λ f. Sou
         let few' : length ((called (Some callee) (Some q) (lab_state p m0) f k.temps k.vars (map lab_call ks) slots result w).calls) ≤ 64 = subst (λ (s : RtState). length s.calls ≤ 64) there few in
         let same = length_links lab_call ks in
         subst (Comes p d m0) (sym there)
-            (call_step p d k ks slots result shared w labelled sound fine inside g q callee is callee_is
-                (formed.arguments_meet_calls inside.arguments k.node (record { op = op.Call g; next = Some q }) is inside.path callee callee_is)
-                ((wf.functions g callee callee_is).parameters_are_few) (omega (arith, few', same)))
+        (call_step p d k ks slots result shared w labelled sound fine inside g q callee is callee_is
+        (formed.arguments_meet_calls inside.arguments k.node (record { op = op.Call g; next = Some q }) is inside.path callee callee_is)
+        ((wf.functions g callee callee_is).parameters_are_few) (omega (arith, few', same)))
 
     op_steps : (o : RtOp) (next : Option ℕ) → IsAt f k.node (record { op = o; next = next }) → GoesOn o next → EachWithin d (op_touched o k.temps) → length ((after o next).calls) ≤ 64 → Comes p d m0 (after o next)
     op_steps (op.Const t n) next is g touched few = with_next (op.Const t n) next g is (λ q e is'. const_step p d k ks slots result shared w sound fine inside t n q is')
@@ -168,10 +168,10 @@ module _ (p : RtLabs) (wf : IsWellFormed p) (labelled : OfFunctions p (λ f. Sou
         let sound = labelled k.index k.function fine.is in
         let flow : flow_graph k.function k.function.entry ≡ Some (node_kind (record { op = o; next = next })) = ap (flow_graph k.function) (sym fresh.at_entry) ∙ ap (λ (n : Option RtNode). option_map node_kind n) is in
         entry_label o next (subst IsLabelNode flow sound.entry_marked)
-            (λ o'. IsAt k.function k.node (record { op = o'; next = next }) → GoesOn o' next → Comes p d (runs k ks slots result shared w) (entry_after o' next))
-            (λ l is' g'. subst (λ n. Comes p d (runs k ks slots result shared w) (entry_after (op.Label l) n)) (sym g'.1)
-                (entry_step p d k ks slots result shared w sound fine fresh l g'.0 (is' ∙ ap (λ n. Some (record { op = op.Label l; next = n })) g'.1) ((wf.functions k.index k.function fine.is).parameters_are_few)))
-            is g
+        (λ o'. IsAt k.function k.node (record { op = o'; next = next }) → GoesOn o' next → Comes p d (runs k ks slots result shared w) (entry_after o' next))
+        (λ l is' g'. subst (λ n. Comes p d (runs k ks slots result shared w) (entry_after (op.Label l) n)) (sym g'.1)
+        (entry_step p d k ks slots result shared w sound fine fresh l g'.0 (is' ∙ ap (λ n. Some (record { op = op.Label l; next = n })) g'.1) ((wf.functions k.index k.function fine.is).parameters_are_few)))
+        is g
 
   -- ---- all steps
 

@@ -73,8 +73,8 @@ module _ (held : List Held) (temps vars : Values) (see see' : Storage → ℕ) (
       other_word : (u : ℕ) → u ≢ t → word_in (27 + 4 * u) see' ≡ word_in (27 + 4 * u) see
       other_word u other =
           word_alike (27 + 4 * u) see see'
-              (same (27 + 4 * u) (λ e. other (omega (arith, e)), (λ e. omega (arith, e), tt)) (λ e. omega (arith, e)))
-              (same (27 + 4 * u + 1) (λ e. omega (arith, e), (λ e. other (omega (arith, e)), tt)) (λ e. omega (arith, e)))
+          (same (27 + 4 * u) (λ e. other (omega (arith, e)), (λ e. omega (arith, e), tt)) (λ e. omega (arith, e)))
+          (same (27 + 4 * u + 1) (λ e. omega (arith, e), (λ e. other (omega (arith, e)), tt)) (λ e. omega (arith, e)))
 
       off_variable : (x r : ℕ) → ((1 ≤ held_bytes (variable_held held x)) × (held_bytes (variable_held held x) ≤ 2)) → 25 + 4 * x ≤ r → r < 25 + 4 * x + held_bytes (variable_held held x) → see' (Loc r) ≡ see (Loc r)
       off_variable x r few from below =
@@ -86,8 +86,8 @@ module _ (held : List Held) (temps vars : Values) (see see' : Storage → ℕ) (
   holds_variable x v is same = record {
     temps_are = λ t.
         word_alike (27 + 4 * t) see see'
-            (same (27 + 4 * t) (off_part (variable_held held x) (27 + 4 * t) (25 + 4 * x) (λ e. omega (arith, e), (λ e. omega (arith, e), tt))))
-            (same (27 + 4 * t + 1) (off_part (variable_held held x) (27 + 4 * t + 1) (25 + 4 * x) (λ e. omega (arith, e), (λ e. omega (arith, e), tt))))
+        (same (27 + 4 * t) (off_part (variable_held held x) (27 + 4 * t) (25 + 4 * x) (λ e. omega (arith, e), (λ e. omega (arith, e), tt))))
+        (same (27 + 4 * t + 1) (off_part (variable_held held x) (27 + 4 * t + 1) (25 + 4 * x) (λ e. omega (arith, e), (λ e. omega (arith, e), tt))))
         ∙ holds.temps_are t;
     vars_are = λ y. ⊎_elim
         (λ a. ap (λ z. scalar_in (variable_held held z) (25 + 4 * z) see') a.1 ∙ is ∙ sym (update_same vars x y v a.1))

@@ -135,13 +135,13 @@ module _ (p : RtLabs) (d : ℕ) where
           → Run target d (byte_state p m0) end
       left_to run end goes small =
           joined run.run
-              (leaves (graphs_of p) p.main p.start d k.index k.node run.own' run.shared' others c1.world end
-                  (ap (λ (n : Node ℕ). exit_step shares_first (graphs_of p) n.exit k.index run.own' others run.shared' c1.world) stand ∙ goes) small)
+          (leaves (graphs_of p) p.main p.start d k.index k.node run.own' run.shared' others c1.world end
+          (ap (λ (n : Node ℕ). exit_step shares_first (graphs_of p) n.exit k.index run.own' others run.shared' c1.world) stand ∙ goes) small)
 
       -- the call goes on at the node q, with these values
       moved_on : (q : ℕ) (after : World) (temps' vars' slots' : Values) → In q (next_nodes (record { op = o; next = next })) → is_call o ≡ false
           → ((own' shared' : Storage → ℕ) → ((s : Storage) → seen shares_first shared' own' s ≡ c1.see s)
-              → exit_step shares_first (graphs_of p) (operation_exit number o r) k.index own' others shared' c1.world ≡ state (call_at (graphs_of p) k.index q own' ∷ others) shared' after)
+          → exit_step shares_first (graphs_of p) (operation_exit number o r) k.index own' others shared' c1.world ≡ state (call_at (graphs_of p) k.index q own' ∷ others) shared' after)
           → (IsByteWorld c1.world → IsByteWorld after)
           → Holds f.held temps' vars' c1.see
           → ((shared' : Storage → ℕ) → ((s : ℕ) → s < 24 → shared' (Loc s) ≡ byte c1 s) → AreHanded (and_argument inside.arguments o) slots' shared')
@@ -190,13 +190,13 @@ module _ (p : RtLabs) (d : ℕ) where
       went_on after temps' vars' world holds' same =
           let c1 : Cpu = all_done (operation_code number f.held f.result o) c0 in
           moved_on o (Some q) q is stand_here bytes within q after temps' vars' slots comes not_call
-              (λ own' shared' alike. ap₂ (λ e w'. exit_step shares_first (graphs_of p) e k.index own' others shared' w') exit world)
-              (subst IsByteWorld world)
-              holds'
-              (λ shared' is'. subst (λ as'. AreHanded as' slots shared') (sym (no_argument inside.arguments))
-                  (handed_alike inside.arguments slots shared shared' inside.within (shared_stays o (Some q) q is stand_here bytes within same shared' is') inside.handed))
-              (λ a. subst (λ as'. Contains as' a → a.first_byte + held_bytes a.held ≤ 12) (sym (no_argument inside.arguments)) (inside.within a))
-              (λ shared' is'. no_result p f labelled k.node q (record { op = o; next = Some q }) result shared' is comes not_call not_label)
+          (λ own' shared' alike. ap₂ (λ e w'. exit_step shares_first (graphs_of p) e k.index own' others shared' w') exit world)
+          (subst IsByteWorld world)
+          holds'
+          (λ shared' is'. subst (λ as'. AreHanded as' slots shared') (sym (no_argument inside.arguments))
+          (handed_alike inside.arguments slots shared shared' inside.within (shared_stays o (Some q) q is stand_here bytes within same shared' is') inside.handed))
+          (λ a. subst (λ as'. Contains as' a → a.first_byte + held_bytes a.held ≤ 12) (sym (no_argument inside.arguments)) (inside.within a))
+          (λ shared' is'. no_result p f labelled k.node q (record { op = o; next = Some q }) result shared' is comes not_call not_label)
 
       -- a temporary gets a value
       calculated : (t v : ℕ) (after : World) → word_in (27 + 4 * t) (all_done (operation_code number f.held f.result o) c0).see ≡ v
@@ -205,8 +205,8 @@ module _ (p : RtLabs) (d : ℕ) where
           → Comes m0 (at_node f q (update k.temps t v) k.vars (map lab_call ks) slots result after)
       calculated t v after value_is same world =
           went_on after (update k.temps t v) k.vars world
-              (holds_temporary f.held k.temps k.vars c0.see (all_done (operation_code number f.held f.result o) c0).see holds0 t v value_is same)
-              (λ s near. same s (λ e. omega (arith, e, near), (λ e. omega (arith, e, near), tt)) (λ e. omega (arith, e, near)))
+          (holds_temporary f.held k.temps k.vars c0.see (all_done (operation_code number f.held f.result o) c0).see holds0 t v value_is same)
+          (λ s near. same s (λ e. omega (arith, e, near), (λ e. omega (arith, e, near), tt)) (λ e. omega (arith, e, near)))
 
       gives_temporary : (t v v' : ℕ) → Gives (operation_code number f.held f.result o) 24 c0 (temporary number t) v → v ≡ v' → Comes m0 (at_node f q (update k.temps t v') k.vars (map lab_call ks) slots result w)
       gives_temporary t v v' g e = calculated t v' w (g.is ∙ e) g.same g.world
@@ -233,8 +233,8 @@ module _ (p : RtLabs) (d : ℕ) where
     pub get_step : (t x q : ℕ) → IsAt f k.node (record { op = op.Get t x; next = Some q }) → Comes m0 (at_node f q (update k.temps t (k.vars x)) k.vars (map lab_call ks) slots result w)
     get_step t x q is =
         gives_temporary (op.Get t x) q is (inl refl) refl refl tt (λ as'. refl) (calm_ops (op.Get t x) tt) (calm_within (op.Get t x) tt) t _ _
-            (reading_gives 24 (variable_held f.held x) (27 + 4 * t) (25 + 4 * x) c0 (record { low_high = λ e. omega (arith, e); high_low = λ e. omega (arith, e) }) (λ e. omega (arith, e)) has0)
-            (holds0.vars_are x)
+        (reading_gives 24 (variable_held f.held x) (27 + 4 * t) (25 + 4 * x) c0 (record { low_high = λ e. omega (arith, e); high_low = λ e. omega (arith, e) }) (λ e. omega (arith, e)) has0)
+        (holds0.vars_are x)
 
     pub neg_step : (t q : ℕ) → IsAt f k.node (record { op = op.Neg t; next = Some q }) → Comes m0 (at_node f q (update k.temps t (negated word_bytes (k.temps t))) k.vars (map lab_call ks) slots result w)
     neg_step t q is =
@@ -251,8 +251,8 @@ module _ (p : RtLabs) (d : ℕ) where
     pub bin_step : (o : CmOp) (t u q : ℕ) → IsAt f k.node (record { op = op.Bin o t u; next = Some q }) → Comes m0 (at_node f q (update k.temps t (operator_value word_bytes o (k.temps t) (k.temps u))) k.vars (map lab_call ks) slots result w)
     bin_step o t u q is =
         gives_temporary (op.Bin o t u) q is (inl refl) refl refl tt (λ as'. refl) (calm_ops (op.Bin o t u) tt) (calm_within (op.Bin o t u) tt) t _ _
-            (operator_gives 24 o (27 + 4 * t) (27 + 4 * u) c0 (two_words t u) (scratch_off t) (scratch_off u) has0)
-            (ap₂ (operator_value word_bytes o) (holds0.temps_are t) (holds0.temps_are u))
+        (operator_gives 24 o (27 + 4 * t) (27 + 4 * u) c0 (two_words t u) (scratch_off t) (scratch_off u) has0)
+        (ap₂ (operator_value word_bytes o) (holds0.temps_are t) (holds0.temps_are u))
 
     pub shl_step : (n t q : ℕ) → IsAt f k.node (record { op = op.Shl n t; next = Some q }) → Comes m0 (at_node f q (update k.temps t (shifted_left word_bytes n (k.temps t))) k.vars (map lab_call ks) slots result w)
     shl_step n t q is =
@@ -261,7 +261,7 @@ module _ (p : RtLabs) (d : ℕ) where
     pub shr_step : (n : ℕ) (keeps_sign : Bool) (t q : ℕ) → IsAt f k.node (record { op = op.Shr n keeps_sign t; next = Some q }) → Comes m0 (at_node f q (update k.temps t (shifted_right word_bytes n keeps_sign (k.temps t))) k.vars (map lab_call ks) slots result w)
     shr_step n keeps_sign t q is =
         gives_temporary (op.Shr n keeps_sign t) q is (inl refl) refl refl tt (λ as'. refl) (calm_ops (op.Shr n keeps_sign t) tt) (calm_within (op.Shr n keeps_sign t) tt) t _ _
-            (shifted_right_gives 24 n keeps_sign (27 + 4 * t) c0 has0) (ap (shifted_right word_bytes n keeps_sign) (holds0.temps_are t))
+        (shifted_right_gives 24 n keeps_sign (27 + 4 * t) c0 has0) (ap (shifted_right word_bytes n keeps_sign) (holds0.temps_are t))
 
     -- a result is what it is kept as
     kept_itself : (h : Held) → kept h (scalar_in h 12 c0.see) ≡ scalar_in h 12 c0.see
@@ -276,8 +276,8 @@ module _ (p : RtLabs) (d : ℕ) where
     result_step h t q is came =
         let result_is : scalar_in h 12 c0.see ≡ result = scalar_alike h 12 shared c0.see (λ r from below. seen_shared shared k.own r (near r (some_bytes h) below)) ∙ inside.result_is.after_label h came in
         gives_temporary (op.Result h t) q is (inl refl) refl refl tt (λ as'. refl) (calm_ops (op.Result h t) tt) (calm_within (op.Result h t) tt) t _ _
-            (reading_gives 24 h (27 + 4 * t) 12 c0 (record { low_high = λ e. omega (arith, e); high_low = λ e. omega (arith, e) }) (λ e. omega (arith, e)) has0)
-            (sym (kept_itself h) ∙ ap (kept h) result_is)
+        (reading_gives 24 h (27 + 4 * t) 12 c0 (record { low_high = λ e. omega (arith, e); high_low = λ e. omega (arith, e) }) (λ e. omega (arith, e)) has0)
+        (sym (kept_itself h) ∙ ap (kept h) result_is)
       where
         near : (r : ℕ) → ((1 ≤ held_bytes h) × (held_bytes h ≤ 2)) → r < 12 + held_bytes h → r < 24
         near r few below = let most = few.1 in omega (arith, most, below)
@@ -292,14 +292,14 @@ module _ (p : RtLabs) (d : ℕ) where
         let c1 : Cpu = all_done (operation_code number f.held f.result (op.Put x t)) c0 in
         let value_is : scalar_in h (25 + 4 * x) c1.see ≡ kept h (k.temps t) = ap (read_from h) (m.0 ∙ ap (λ v. v % count_of_values (held_bytes h)) (holds0.temps_are t)) in
         went_on (op.Put x t) q is (inl refl) refl refl tt (λ as'. refl) (calm_ops (op.Put x t) tt) (calm_within (op.Put x t) tt) w k.temps (assigned f.held x (k.temps t) k.vars) m.2
-            (holds_variable f.held k.temps k.vars c0.see c1.see holds0 x (kept h (k.temps t)) value_is m.1)
-            (λ s near. m.1 s (off_part h s (25 + 4 * x) (λ e. omega (arith, e, near), (λ e. omega (arith, e, near), tt))))
+        (holds_variable f.held k.temps k.vars c0.see c1.see holds0 x (kept h (k.temps t)) value_is m.1)
+        (λ s near. m.1 s (off_part h s (25 + 4 * x) (λ e. omega (arith, e, near), (λ e. omega (arith, e, near), tt))))
 
     pub load_step : (h : Held) (t q : ℕ) → IsAt f k.node (record { op = op.Load h t; next = Some q }) → EachWithin d (held_addresses h (k.temps t)) → Comes m0 (at_node f q (update k.temps t (held_at h w (k.temps t))) k.vars (map lab_call ks) slots result w)
     load_step h t q is within =
         let touches : all_touched (load h (temporary number t)) c0 ≡ held_addresses h (k.temps t) = load_touches h (27 + 4 * t) c0 ∙ ap (held_addresses h) (holds0.temps_are t) in
         gives_temporary (op.Load h t) q is (inl refl) refl refl tt (λ as'. refl) (load_bytes h (27 + 4 * t)) (subst (EachWithin d) (sym touches) within) t _ _
-            (load_gives 24 h (27 + 4 * t) c0 has0) (ap (held_at h w) (holds0.temps_are t))
+        (load_gives 24 h (27 + 4 * t) c0 has0) (ap (held_at h w) (holds0.temps_are t))
 
     pub store_step : (h : Held) (t u q : ℕ) → IsAt f k.node (record { op = op.Store h t u; next = Some q }) → EachWithin d (held_addresses h (k.temps t)) → Comes m0 (at_node f q k.temps k.vars (map lab_call ks) slots result (held_in h w (k.temps t) (k.temps u)))
     store_step h t u q is within =
@@ -307,9 +307,9 @@ module _ (p : RtLabs) (d : ℕ) where
         let g = store_gives h (27 + 4 * t) (27 + 4 * u) c0 has0 in
         let c1 : Cpu = all_done (operation_code number f.held f.result (op.Store h t u)) c0 in
         went_on (op.Store h t u) q is (inl refl) refl refl tt (λ as'. refl) (tt, tt) (subst (EachWithin d) (sym touches) within) (held_in h w (k.temps t) (k.temps u)) k.temps k.vars
-            (g.0 ∙ ap₂ (held_in h w) (holds0.temps_are t) (holds0.temps_are u))
-            (holds_alike f.held k.temps k.vars c0.see c1.see holds0 (λ s far. g.1 s))
-            (λ s near. g.1 s)
+        (g.0 ∙ ap₂ (held_in h w) (holds0.temps_are t) (holds0.temps_are u))
+        (holds_alike f.held k.temps k.vars c0.see c1.see holds0 (λ s far. g.1 s))
+        (λ s near. g.1 s)
 
     pub read_step : (t q : ℕ) → IsAt f k.node (record { op = op.ReadPort t; next = Some q }) → Comes m0 (at_node f q (update k.temps t (next_reading w.script)) k.vars (map lab_call ks) slots result (after_reading w))
     read_step t q is =
@@ -321,9 +321,9 @@ module _ (p : RtLabs) (d : ℕ) where
         let low = has0.hold (27 + 4 * t) in
         let byte_is : byte c0 (27 + 4 * t) ≡ low_byte (word_in (27 + 4 * t) c0.see) = omega (arith, low) in
         went_on (op.WritePort t) q is (inl refl) refl refl tt (λ as'. refl) (calm_ops (op.WritePort t) tt) (calm_within (op.WritePort t) tt) (shown (event.Write P1 (low_byte (k.temps t))) w) k.temps k.vars
-            (ap (λ b. shown (event.Write P1 b) w) (byte_is ∙ ap low_byte (holds0.temps_are t)))
-            holds0
-            (λ s near. refl)
+        (ap (λ b. shown (event.Write P1 b) w) (byte_is ∙ ap low_byte (holds0.temps_are t)))
+        holds0
+        (λ s near. refl)
 
     -- ---- arguments, labels and tests
 
@@ -339,15 +339,15 @@ module _ (p : RtLabs) (d : ℕ) where
         let value_is : scalar_in h (12 + first) c1.see ≡ kept h (k.temps t) = ap (read_from h) (m.0 ∙ ap (λ v. v % count_of_values (held_bytes h)) (holds0.temps_are t)) in
         let c : Argument = record { held = h; first_byte = first } in
         moved_on o (Some q) q is stand (calm_ops o tt) (calm_within o tt) q w k.temps k.vars (update slots first (kept h (k.temps t))) (inl refl) refl
-            (λ own' shared' alike. ap (λ w'. state (call_at (graphs_of p) k.index q own' ∷ others) shared' w') m.2)
-            (subst IsByteWorld m.2)
-            (holds_alike f.held k.temps k.vars c0.see c1.see holds0 (λ s far. m.1 s (off_scalar h s (12 + first) (inr (omega (arith, within, far))))))
-            (λ shared' is'. one_handed inside.arguments c (kept h (k.temps t)) slots shared shared' inside.handed
-                (scalar_alike h (12 + first) c1.see shared' (λ r from below. is' r (omega (arith, below, within))) ∙ value_is)
-                (λ r near off. is' r near ∙ m.1 r off ∙ seen_shared shared k.own r near)
-                inside.within)
-            (λ a among. ⊎_elim (λ earlier. inside.within a earlier) (λ last. ⊎_elim (λ e. subst (λ (b : Argument). b.first_byte + held_bytes b.held ≤ 12) e within) (λ n. absurd (contains_none a n)) (contains_cons c [] a last)) (Contains-append_cases inside.arguments (c ∷ []) a among))
-            (λ shared' is'. no_result p f labelled k.node q (record { op = o; next = Some q }) result shared' is (inl refl) refl tt)
+        (λ own' shared' alike. ap (λ w'. state (call_at (graphs_of p) k.index q own' ∷ others) shared' w') m.2)
+        (subst IsByteWorld m.2)
+        (holds_alike f.held k.temps k.vars c0.see c1.see holds0 (λ s far. m.1 s (off_scalar h s (12 + first) (inr (omega (arith, within, far))))))
+        (λ shared' is'. one_handed inside.arguments c (kept h (k.temps t)) slots shared shared' inside.handed
+        (scalar_alike h (12 + first) c1.see shared' (λ r from below. is' r (omega (arith, below, within))) ∙ value_is)
+        (λ r near off. is' r near ∙ m.1 r off ∙ seen_shared shared k.own r near)
+        inside.within)
+        (λ a among. ⊎_elim (λ earlier. inside.within a earlier) (λ last. ⊎_elim (λ e. subst (λ (b : Argument). b.first_byte + held_bytes b.held ≤ 12) e within) (λ n. absurd (contains_none a n)) (contains_cons c [] a last)) (Contains-append_cases inside.arguments (c ∷ []) a among))
+        (λ shared' is'. no_result p f labelled k.node q (record { op = o; next = Some q }) result shared' is (inl refl) refl tt)
 
     pub label_step : (l : _) (q : ℕ) → IsAt f k.node (record { op = op.Label l; next = Some q }) → Comes m0 (at_node f q k.temps k.vars (map lab_call ks) slots result (shown (event.Label l) w))
     label_step l q is =
@@ -355,12 +355,12 @@ module _ (p : RtLabs) (d : ℕ) where
         let stand = stands o q (node_is f k.node o q is inside.away) in
         let stays = shared_stays o (Some q) q is stand (calm_ops o tt) (calm_within o tt) (λ s near. refl) in
         moved_on o (Some q) q is stand (calm_ops o tt) (calm_within o tt) q (shown (event.Label l) w) k.temps k.vars slots (inl refl) refl
-            (λ own' shared' alike. refl)
-            (λ bytes. record { xram = bytes.xram; script = bytes.script })
-            holds0
-            (λ shared' is'. handed_alike inside.arguments slots shared shared' inside.within (stays shared' is') inside.handed)
-            inside.within
-            (λ shared' is'. result_past_label p f labelled k.node q l result shared' is (result_alike inside.result_is (stays shared' is')))
+        (λ own' shared' alike. refl)
+        (λ bytes. record { xram = bytes.xram; script = bytes.script })
+        holds0
+        (λ shared' is'. handed_alike inside.arguments slots shared shared' inside.within (stays shared' is') inside.handed)
+        inside.within
+        (λ shared' is'. result_past_label p f labelled k.node q l result shared' is (result_alike inside.result_is (stays shared' is')))
       where
         result_alike : {at : ℕ} {shared' : Storage → ℕ} → ResultIs p f at result shared → ((s : ℕ) → s < 24 → shared' (Loc s) ≡ shared (Loc s)) → ResultIs p f at result shared'
         result_alike {shared' = shared'} before alike = record {
@@ -392,12 +392,12 @@ module _ (p : RtLabs) (d : ℕ) where
         let c1 : Cpu = all_done (operation_code number f.held f.result o) c0 in
         let same : (s : ℕ) → s < 24 → byte c1 s ≡ byte c0 s = λ s near. g.same s (λ e. omega (arith, e, near)) in
         let branch_is : byte_branch (byte c1 24) on_true on_false ≡ q =
-            same_branch (k.temps t) (byte c1 24) on_true on_false (λ e. g.to_zero (holds0.temps_are t ∙ e)) (λ e. sym (holds0.temps_are t) ∙ g.from_zero e) in
+        same_branch (k.temps t) (byte c1 24) on_true on_false (λ e. g.to_zero (holds0.temps_are t ∙ e)) (λ e. sym (holds0.temps_are t) ∙ g.from_zero e) in
         let no_more = no_result p f labelled k.node q (record { op = o; next = None }) result in
         moved_on o None last.0 is stand (calm_ops o tt) (calm_within o tt) q w k.temps k.vars slots (one_arm (k.temps t) on_true on_false) refl
-            (λ own' shared' alike. ap (λ n. state (call_at (graphs_of p) k.index n own' ∷ others) shared' w) (ap (λ b. byte_branch b on_true on_false) (alike (Loc 24)) ∙ branch_is))
-            (λ bytes. bytes)
-            (holds_alike f.held k.temps k.vars c0.see c1.see holds0 (λ s far. g.same s (λ e. omega (arith, e, far))))
-            (λ shared' is'. handed_alike inside.arguments slots shared shared' inside.within (shared_stays o None last.0 is stand (calm_ops o tt) (calm_within o tt) same shared' is') inside.handed)
-            inside.within
-            (λ shared' is'. no_more shared' is (one_arm (k.temps t) on_true on_false) refl tt)
+        (λ own' shared' alike. ap (λ n. state (call_at (graphs_of p) k.index n own' ∷ others) shared' w) (ap (λ b. byte_branch b on_true on_false) (alike (Loc 24)) ∙ branch_is))
+        (λ bytes. bytes)
+        (holds_alike f.held k.temps k.vars c0.see c1.see holds0 (λ s far. g.same s (λ e. omega (arith, e, far))))
+        (λ shared' is'. handed_alike inside.arguments slots shared shared' inside.within (shared_stays o None last.0 is stand (calm_ops o tt) (calm_within o tt) same shared' is') inside.handed)
+        inside.within
+        (λ shared' is'. no_more shared' is (one_arm (k.temps t) on_true on_false) refl tt)

@@ -60,30 +60,56 @@ fn push_node(
     if !has_small_numbers(node.op) {
         return Err(NoMemory);
     }
-    nodes.push(node_of(alloc, function.held.as_slice(), function.result, node.op, next)?)
+    nodes.push(node_of(
+        alloc,
+        function.held.as_slice(),
+        function.result,
+        node.op,
+        next,
+    )?)
 }
 
 // The nodes of a function in bytes, where the new node has this number.
-fn push_nodes(alloc: Global, nodes: &mut Nodes<Vreg>, function: &RtFunction, new: u32) -> Result<(), NoMemory>
+fn push_nodes(
+    alloc: Global,
+    nodes: &mut Nodes<Vreg>,
+    function: &RtFunction,
+    new: u32,
+) -> Result<(), NoMemory>
     requires { length function.now.nodes.items < 2 ^ 32 }
     ensures { OnOk result (map code_node nodes.new ≡ map code_node nodes.old ++ spec.nodes_from vreg (labs_graph function.now) new 0 function.now.nodes.items) }
 {
     for at in 0..function.nodes.len() {
         let node = function.nodes[at];
-        push_node(alloc, nodes, function, node, next_of(function, new, at as u32, node))?;
+        push_node(
+            alloc,
+            nodes,
+            function,
+            node,
+            next_of(function, new, at as u32, node),
+        )?;
     }
     Ok(())
 }
 
 // All nodes of a function in bytes, the new one last.
-fn push_all_nodes(alloc: Global, nodes: &mut Nodes<Vreg>, function: &RtFunction) -> Result<(), NoMemory>
+fn push_all_nodes(
+    alloc: Global,
+    nodes: &mut Nodes<Vreg>,
+    function: &RtFunction,
+) -> Result<(), NoMemory>
     ensures { OnOk result (map code_node nodes.new ≡ map code_node nodes.old ++ spec.all_nodes vreg (labs_graph function.now)) }
 {
     if MOST <= function.nodes.len() || MOST <= function.held.len() {
         return Err(NoMemory);
     }
     push_nodes(alloc, nodes, function, function.nodes.len() as u32)?;
-    nodes.push(entry_node(alloc, function.held.as_slice(), function.params, entry_next(function))?)
+    nodes.push(entry_node(
+        alloc,
+        function.held.as_slice(),
+        function.params,
+        entry_next(function),
+    )?)
 }
 
 // The graph of a function.
@@ -99,7 +125,11 @@ fn graph(alloc: Global, function: &RtFunction) -> Result<Graph<Vreg>, NoMemory>
 }
 
 /// The graphs of functions.
-pub fn push_graphs(alloc: Global, graphs: &mut Graphs<Vreg>, functions: &[RtFunction]) -> Result<(), NoMemory>
+pub fn push_graphs(
+    alloc: Global,
+    graphs: &mut Graphs<Vreg>,
+    functions: &[RtFunction],
+) -> Result<(), NoMemory>
     ensures { OnOk result (map graph_of graphs.new ≡ map graph_of graphs.old ++ map (spec.translated_function vreg) (map labs_graph functions.now)) }
 {
     for function in functions {

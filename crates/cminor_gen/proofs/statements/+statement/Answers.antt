@@ -18,7 +18,7 @@ statement-returns-in_ok-add_statements-in-Block t c =
     let p = program_of c.args.program.now in
     let body = c.in-Block.body in
     let made = c.in_ok-add_statements-in-Block.ensures
-        ∙ ap (λ xs. statements_after p (stmts_of xs) (cm_stmts_of c.new-list.result.items)) c.as_slice.ensures.value
-        ∙ ap (λ xs. statements_after p (stmts_of body.items) (cm_stmts_of xs)) c.new-list.ensures.items in
+    ∙ ap (λ xs. statements_after p (stmts_of xs) (cm_stmts_of c.new-list.result.items)) c.as_slice.ensures.value
+    ∙ ap (λ xs. statements_after p (stmts_of body.items) (cm_stmts_of xs)) c.new-list.ensures.items in
     let is = ap (λ s. statement p (stmt_of s)) c.in-Block.is ∙ ap (statement p) (block_is c.in-Block.field-0 c.in-Block.field-2 body) in
     subst (λ z. IfOk c.sequence.result (λ r. cm_stmt_of r.value ≡ z)) (ap m.Seq made ∙ sym is) c.sequence.ensures

@@ -7,5 +7,5 @@ use Rattle.rtl_gen.proofs.entry.push_taken.Given as goal
 abbrev pub invariant-loop-x : goal.invariant-loop-x
 invariant-loop-x l = record {
   few : l.first_byte ≤ 2 * l.x;
-  pushed : ops_of l.ops ++ spec.taken vreg (drop l.x l.parameters) l.x l.first_byte ≡ ops_of l.initial.ops ++ spec.taken vreg l.parameters 0 0
+  pushed : ops_of l.ops ++ spec.taken vreg (drop l.x l.parameters) l.x l.first_byte ≡ ops_of l.initial.ops ++ spec.taken vreg l.parameters 0 0;
 }
