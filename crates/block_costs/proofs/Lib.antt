@@ -1,0 +1,5 @@
+pub mod Marking
+pub mod Tallies
+pub mod Sound
+pub mod Sums
+mod Examples

@@ -1,0 +1,4 @@
+pub mod Ways
+pub mod Sound
+pub mod Sums
+pub mod Code
