@@ -2,6 +2,11 @@
 -- own, and so has one byte that is worked with (CerCo, deliverable 4.2: the pseudo-registers of RTL). Arguments and results are
 -- handed over in the twelve from 12 on. A value has its low byte first.
 use Rattle.std.specs.Prelude.{ℕ, ◌+◌, ◌*◌, List, [], ◌∷◌}
+use Rattle.rtl.specs.declared.locations.Vreg.{Vreg}
+
+-- the virtual register with a number
+abbrev pub vreg : ℕ → Vreg
+vreg n = record { 0 = n }
 
 -- over locations with these numbers
 module _ {L : Type 0} (at : ℕ → L) where

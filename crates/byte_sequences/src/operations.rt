@@ -4,7 +4,8 @@ ghost use Rattle.cerco_middle.specs.Calls.{variable_held};
 ghost use Rattle.rtl.specs.Code.Views.{node_of as code_node};
 ghost use Rattle.byte_sequences.specs.Operations as spec;
 ghost use Rattle.byte_sequences.specs.Words as words;
-ghost use Rattle.byte_sequences.specs.Code.Views.{ops_of, vreg, vregs};
+ghost use Rattle.byte_sequences.specs.Words.{vreg};
+ghost use Rattle.byte_sequences.specs.Code.Views.{ops_of, vregs};
 ghost use Rattle.byte_sequences.specs.Code.Numbers.{HasSmallNumbers};
 
 use crate::arithmetic::{

@@ -1,7 +1,8 @@
 //! The virtual registers that hold the values of a call.
 ghost use Rattle.std.specs.Prelude.{◌≡◌, ◌+◌, ◌<◌, ◌^◌};
 ghost use Rattle.byte_sequences.specs.Words as spec;
-ghost use Rattle.byte_sequences.specs.Code.Views.{vreg, vregs};
+ghost use Rattle.byte_sequences.specs.Words.{vreg};
+ghost use Rattle.byte_sequences.specs.Code.Views.{vregs};
 
 use rtl::Vreg;
 

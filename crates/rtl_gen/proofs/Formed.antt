@@ -18,7 +18,7 @@ use Rattle.rtl.specs.Programs.{Node, Graph}
 use Rattle.rtl.specs.WellFormed.{gathered, exit_nodes, exit_functions, exit_labels, functions_in, labels_in, NoneTwice, AreCounted, IsGraph, NamesNodes, NamesFunctions, callers_of, AreCallersFrom, IsRtl, NamesItsVregs}
 use Rattle.rtl.specs.WellFormed.{IsWellFormed as IsWellFormedRtl}
 use Rattle.byte_sequences.specs.Operations.{operation_exit, operation_node}
-use Rattle.byte_sequences.specs.Code.Views.{vreg}
+use Rattle.byte_sequences.specs.Words.{vreg}
 use Rattle.rtl_gen.specs.Translation.{next_or, next_of, next_in, entry_next, entry_node, nodes_from, translated_function, translated}
 use Rattle.rtl_gen.proofs.Nodes.{next_other, next_entry}
 use Rattle.rtl_gen.proofs.Handing.{contains_none, contains_cons}

@@ -10,7 +10,7 @@ use Rattle.rtl.specs.declared.locations.Vreg.{Vreg}
 use Rattle.rtl.specs.Programs.{Node, Graph}
 use Rattle.rtl.specs.WellFormed.{gathered, exit_labels, exit_functions, labels_in, functions_in}
 use Rattle.byte_sequences.specs.Operations.{operation_exit}
-use Rattle.byte_sequences.specs.Code.Views.{vreg}
+use Rattle.byte_sequences.specs.Words.{vreg}
 use Rattle.rtl_gen.specs.Translation.{next_of, entry_next, entry_node, nodes_from, all_nodes, translated_function, translated}
 use Rattle.rtl_gen.specs.Promises.{KeepsFunction, KeepsProgram}
 use Rattle.rtl_gen.proofs.Nodes.{length_nodes_from}

@@ -17,7 +17,7 @@ use Rattle.rtl.specs.declared.locations.Vreg.{Vreg}
 use Rattle.rtl.specs.Programs.{Node, Graph}
 use Rattle.rtl.specs.Graphs.{kind_of, kind_or_none, flow_of, AreSoundlyLabelled}
 use Rattle.byte_sequences.specs.Operations.{operation_code, operation_exit, operation_node}
-use Rattle.byte_sequences.specs.Code.Views.{vreg}
+use Rattle.byte_sequences.specs.Words.{vreg}
 use Rattle.rtl_gen.specs.Translation.{next_or, next_in, entry_next, next_of, entry_node, nodes_from, all_nodes, translated_function, translated}
 use Rattle.rtl_gen.specs.Promises.{GraphsAreLabelled}
 use Rattle.rtl_gen.proofs.Nodes.{old_node, new_node, length_nodes_from, next_other, next_entry}

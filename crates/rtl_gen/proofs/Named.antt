@@ -24,10 +24,9 @@ use Rattle.rtl.specs.Programs.{Node, Graph}
 use Rattle.rtl.specs.Locations.{vreg_number}
 use Rattle.rtl.specs.Lengths.{stands_in, own_count, register_need}
 use Rattle.rtl.specs.WellFormed.{gathered, op_locations, exit_locations, node_locations, locations_in, IsOfLanguage, NamesItsVregs}
-use Rattle.byte_sequences.specs.Words.{word_from, temporary, variable, argument, scratch}
+use Rattle.byte_sequences.specs.Words.{vreg, word_from, temporary, variable, argument, scratch}
 use Rattle.byte_sequences.specs.Sequences.{held_part, moves, zeros, extension, reading, load, store, sum, repeated, half}
 use Rattle.byte_sequences.specs.Operations.{operator_code, result_code, operation_code, operation_exit, operation_node}
-use Rattle.byte_sequences.specs.Code.Views.{vreg}
 use Rattle.byte_sequences.proofs.OperationLaws.{number}
 use Rattle.rtl_gen.specs.Translation.{next_of, entry_next, entry_code, entry_node, taken, cleared, nodes_from, all_nodes, translated_function, translated}
 use Rattle.rtl_gen.specs.Promises.{NeedNoMore}

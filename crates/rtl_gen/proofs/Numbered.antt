@@ -19,10 +19,9 @@ use Rattle.rtl.specs.Operations.{ByteOp}
 use Rattle.rtl.specs.Programs.{Node, Graph}
 use Rattle.rtl.specs.Locations.{vreg_number}
 use Rattle.rtl.specs.Graphs.{renamed_op, renamed_exit, renamed_node, renamed_graph, graph_or, graph_at, numbered}
-use Rattle.byte_sequences.specs.Words.{word_from, temporary, variable, argument, scratch}
+use Rattle.byte_sequences.specs.Words.{vreg, word_from, temporary, variable, argument, scratch}
 use Rattle.byte_sequences.specs.Sequences.{held_part, moves, zeros, extension, reading, load, store, sum, repeated, half}
 use Rattle.byte_sequences.specs.Operations.{operator_code, result_code, operation_code, operation_exit, operation_node}
-use Rattle.byte_sequences.specs.Code.Views.{vreg}
 use Rattle.byte_sequences.proofs.OperationLaws.{number}
 use Rattle.rtl_gen.specs.Translation.{next_or, next_of, entry_next, taken, cleared, entry_code, entry_node, nodes_from, all_nodes, translated_function, translated}
 

@@ -17,10 +17,9 @@ use Rattle.rtl.specs.Programs.{Node, Graph}
 use Rattle.rtl.specs.Locations.{vreg_number}
 use Rattle.rtl.specs.Graphs.{renamed_graph}
 use Rattle.rtl.specs.Lengths.{total, op_length, exit_length, node_length, graph_length, vreg_length}
-use Rattle.byte_sequences.specs.Words.{word_from, temporary, variable, argument}
+use Rattle.byte_sequences.specs.Words.{vreg, word_from, temporary, variable, argument}
 use Rattle.byte_sequences.specs.Sequences.{held_part, moves, zeros, extension, reading, load, store, sum, repeated, half}
 use Rattle.byte_sequences.specs.Operations.{operator_code, result_code, operation_code, operation_exit}
-use Rattle.byte_sequences.specs.Code.Views.{vreg}
 use Rattle.byte_sequences.proofs.OperationLaws.{number}
 use Rattle.rtl_gen.specs.Translation.{next_of, entry_next, entry_code, entry_node, taken, cleared, nodes_from, translated_function, translated}
 use Rattle.rtl_gen.proofs.Numbered.{function_numbered}

@@ -11,10 +11,9 @@ use Rattle.rtl.specs.declared.locations.Vreg.{Vreg}
 use Rattle.rtl.specs.declared.graphs.Exit.TheVariants.{Next}
 use Rattle.rtl.specs.Operations.{ByteOp}
 use Rattle.rtl.specs.Programs.{Node, Graph, Bytes}
-use Rattle.byte_sequences.specs.Words.{variable, argument}
+use Rattle.byte_sequences.specs.Words.{vreg, variable, argument}
 use Rattle.byte_sequences.specs.Sequences.{held_part, moves, zeros}
 use Rattle.byte_sequences.specs.Operations.{operation_node}
-use Rattle.byte_sequences.specs.Code.Views.{vreg}
 
 -- ---- where nodes go on
 

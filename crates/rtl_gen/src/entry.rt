@@ -2,7 +2,8 @@
 ghost use Rattle.std.specs.Prelude.{◌≡◌, ◌<◌, ◌+◌, ◌^◌, ◌++◌, OnOk, IfOk, length, take, drop};
 ghost use Rattle.cerco_middle.specs.Operators.{held_bytes};
 ghost use Rattle.rtl.specs.Code.Views.{node_of};
-ghost use Rattle.byte_sequences.specs.Code.Views.{ops_of, vreg};
+ghost use Rattle.byte_sequences.specs.Words.{vreg};
+ghost use Rattle.byte_sequences.specs.Code.Views.{ops_of};
 ghost use Rattle.rtl_gen.specs.Translation as spec;
 
 use byte_sequences::moves::{push_moves, push_zeros};

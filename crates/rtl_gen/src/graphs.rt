@@ -2,7 +2,7 @@
 ghost use Rattle.std.specs.Prelude.{◌≡◌, ◌<◌, ◌^◌, ◌++◌, OnOk, IfOk, length, map, slice_get};
 ghost use Rattle.cerco_middle.specs.Code.Views.{graph_of as labs_graph};
 ghost use Rattle.rtl.specs.Code.Views.{node_of as code_node, graph_of};
-ghost use Rattle.byte_sequences.specs.Code.Views.{vreg};
+ghost use Rattle.byte_sequences.specs.Words.{vreg};
 ghost use Rattle.rtl_gen.specs.Translation as spec;
 
 use crate::entry::entry_node;

@@ -1,5 +1,5 @@
 -- How the words, operands and operations of the code stand for those of the definitions.
-use Rattle.std.specs.Prelude.{ℕ, List, [], ◌∷◌, map}
+use Rattle.std.specs.Prelude.{List, [], ◌∷◌, map}
 use Rattle.rtl.specs.declared.locations.Vreg.{Vreg}
 use Rattle.rtl.specs.declared.operations.Src.{Src}
 use Rattle.rtl.specs.declared.operations.ByteOp.{ByteOp as WrittenOp}
@@ -7,10 +7,6 @@ use Rattle.rtl.specs.Operations.{ByteOp}
 use Rattle.rtl.specs.Code.Views.{op_of}
 use Rattle.byte_sequences.specs.declared.words.Word.{Word}
 use Rattle.byte_sequences.specs.declared.arithmetic.Operand.{Operand}
-
--- the virtual register with a number
-abbrev pub vreg : ℕ → Vreg
-vreg n = record { 0 = n }
 
 -- the virtual registers of a word, the one of the low byte first
 abbrev pub vregs : Word → List Vreg

@@ -1,6 +1,7 @@
 -- What is still to be pushed is what is left of it.
 use Rattle.std.proofs.Common.{◌≡◌, ◌++◌, ◌*◌, ◌≤◌, drop}
-use Rattle.byte_sequences.specs.Code.Views.{ops_of, vreg}
+use Rattle.byte_sequences.specs.Words.{vreg}
+use Rattle.byte_sequences.specs.Code.Views.{ops_of}
 use Rattle.rtl_gen.specs.Translation as spec
 use Rattle.rtl_gen.proofs.entry.push_taken.Given as goal
 

@@ -3,7 +3,7 @@ use Rattle.std.proofs.Common.{◌≡◌, ◌++◌, take}
 use Rattle.std.specs.Prelude.{map}
 use Rattle.cerco_middle.specs.Code.Views.{graph_of as labs_graph}
 use Rattle.rtl.specs.Code.Views.{graph_of}
-use Rattle.byte_sequences.specs.Code.Views.{vreg}
+use Rattle.byte_sequences.specs.Words.{vreg}
 use Rattle.rtl_gen.specs.Translation as spec
 use Rattle.rtl_gen.proofs.graphs.push_graphs.Given as goal
 
