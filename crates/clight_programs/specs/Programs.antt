@@ -1,10 +1,11 @@
 -- What a checked program is to a compiler: its functions are typed, its variables have their places in external RAM, and its call paths
 -- are short.
 use Rattle.std.specs.Prelude.{◌≡◌, ℕ, suc, ◌+◌, ◌<◌, ◌≤◌, List, [], ◌∷◌, length, Option, Some, None, slice_get}
-use Rattle.c_types.specs.Types.{CType, Void}
+use Rattle.c_types.specs.Types.{CType, Void, Integer, Array}
+use Rattle.clight_source.specs.Trees.{Initialiser, NoInitialiser, Single, Listed}
 use Rattle.clight_syntax.specs.TypedTrees.{Item, StructItem, GlobalItem, PrototypeItem, FunctionItem, LocalInitialiser, NoValue, Value, Local, Function, Variable', TypedProgram, own_variables, address_at}
 use Rattle.clight_meaning.specs.Meaning.{variable_type}
-use Rattle.clight_programs.specs.Scopes.{IsShort, IsShortScalar, IsAtHome, IsVariable, bytes_of, AreBetween, function_scalars}
+use Rattle.clight_programs.specs.Scopes.{IsShort, IsShortScalar, IsAtHome, IsVariable, bytes_of, AreBetween, function_scalars, HasShortScalars}
 use Rattle.clight_programs.specs.Expressions.{IsTyped}
 use Rattle.clight_programs.specs.Statements.{Paths, StmtsFit}
 
@@ -45,6 +46,28 @@ GlobalsAreBetween p from (StructItem s ∷ items) to = GlobalsAreBetween p from 
 GlobalsAreBetween p from (PrototypeItem q ∷ items) to = GlobalsAreBetween p from items to
 GlobalsAreBetween p from (FunctionItem f ∷ items) to = GlobalsAreBetween p from items to
 
+abbrev pub IsInteger : CType → Type 0
+IsInteger (Integer size signed) = Unit {0}
+IsInteger T = ⊥
+
+abbrev pub HasIntegers : CType → Type 0
+HasIntegers (Array element count) = IsInteger element
+HasIntegers T = ⊥
+
+-- a number is for an integer, and a list for an array of integers
+abbrev pub TakesInitialiser : CType → Initialiser → Type 0
+TakesInitialiser T NoInitialiser = Unit {0}
+TakesInitialiser T (Single equals number) = IsInteger T
+TakesInitialiser T (Listed equals left earlier last right) = HasIntegers T
+
+-- the globals are of short scalars, and take their initialisers
+abbrev pub GlobalsFit : {L : Type 0} → TypedProgram L → List Item → Type 0
+GlobalsFit p [] = Unit {0}
+GlobalsFit p (GlobalItem g n ∷ items) = HasShortScalars p.structs (variable_type p n) × TakesInitialiser (variable_type p n) g.initialiser × GlobalsFit p items
+GlobalsFit p (StructItem s ∷ items) = GlobalsFit p items
+GlobalsFit p (PrototypeItem q ∷ items) = GlobalsFit p items
+GlobalsFit p (FunctionItem f ∷ items) = GlobalsFit p items
+
 pub record IsChecked {L : Type 0} (p : TypedProgram L) : Type 0 where
   pub paths : Paths
   pub functions : (h : ℕ) (f : Function L) → slice_get p.functions h ≡ Some f → FunctionFits p paths h f
@@ -53,3 +76,4 @@ pub record IsChecked {L : Type 0} (p : TypedProgram L) : Type 0 where
   pub main_plain : (main.parameters ≡ 0) × (main.result ≡ Void)
   pub globals : GlobalsAreBetween p 1 p.items (paths.begin p.main)
   pub few_bytes : suc p.data_bytes < 65536
+  pub first_values : GlobalsFit p p.items

@@ -94,3 +94,7 @@ IsBetween structs (h.Scalar n) x from Rest = Rest from
 abbrev pub AreBetween : List StructType → ℕ → List Variable' → ℕ → Type 0
 AreBetween structs from [] to = from ≤ to
 AreBetween structs from (x ∷ xs) to = IsBetween structs x.home x from (λ next. AreBetween structs next xs to)
+
+-- all scalars in it are short ones
+abbrev pub HasShortScalars : List StructType → CType → Type 0
+HasShortScalars structs T = (i : ℕ) (U : CType) → slice_get (kinds_of structs T) i ≡ Some (Some U) → IsShortScalar U

@@ -1,3 +1,10 @@
 pub mod Rows
 pub mod Words
 pub mod Values
+pub mod Following
+pub mod Scalars
+pub mod Runs
+pub mod Entry
+pub mod Starts
+pub mod Preserved
+pub mod Promised

@@ -241,7 +241,7 @@ module _ (p : TypedProgram Label) (f : Function Label) (S : Shape) (d : ℕ) (fi
         (omega arith, omega arith),
   )
 
-  home_place : (home : Home) (T : CType) (a : ℕ) → IsAtHome p f home T a → PlaceIs (Ok (e.home_position home st.frame)) (m.Const a)
+  pub home_place : (home : Home) (T : CType) (a : ℕ) → IsAtHome p f home T a → PlaceIs (Ok (e.home_position home st.frame)) (m.Const a)
   home_place (h.Global b) T a is = (block_points b 0 a located.some (λ bl i same. located.global b a is bl i same), tt)
   home_place (h.Block b) T a is = (block_points (st.frame.blocks + b) st.frame.call a located.mine (λ bl i same. located.own b a is bl i same), tt)
   home_place (h.Scalar k) T a is = tt

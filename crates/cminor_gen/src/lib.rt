@@ -2,7 +2,11 @@
 #![tactic(auto)]
 
 ghost use Rattle.std.specs.Prelude.{◌≡◌, IfOk};
+ghost use Rattle.cerco_traces.specs.Preservation.{PreservesSource};
 ghost use Rattle.cerco_middle.specs.Code.Views.{cminor_of};
+ghost use Rattle.cerco_middle.specs.Cminor.Meaning.{cminor};
+ghost use Rattle.clight_meaning.specs.Meaning.{source};
+ghost use Rattle.clight_programs.specs.Programs.{IsChecked};
 ghost use Rattle.clight_syntax.specs.Code.TypedViews.{labelled_of};
 ghost use Rattle.cminor_gen.specs.Translation.Programs.{translated};
 
@@ -20,14 +24,9 @@ use cerco_middle::Cminor;
 use clight_syntax::Labelled;
 use std::alloc::Global;
 
-/// The Cminor program of a labelled one (CerCo, deliverable 3.2).
-///
-/// # Errors
-///
-/// Out of memory.
-pub fn to_cminor(alloc: Global, program: &Labelled) -> Result<Cminor, NoMemory>
-    // Each form becomes what the translation says.
-    ensures is { IfOk result (λ c. cminor_of c ≡ translated (labelled_of program.now)) }
+// The program that the translation tells.
+fn translation(alloc: Global, program: &Labelled) -> Result<Cminor, NoMemory>
+    ensures { IfOk result (λ c. cminor_of c ≡ translated (labelled_of program.now)) }
 {
     let program = &program.program;
     Ok(Cminor {
@@ -36,4 +35,20 @@ pub fn to_cminor(alloc: Global, program: &Labelled) -> Result<Cminor, NoMemory>
         main: program.main,
         start: start_bytes(alloc, program)?,
     })
+}
+
+/// The Cminor program of a labelled one (CerCo, deliverable 3.2).
+///
+/// # Errors
+///
+/// Out of memory.
+pub fn to_cminor(alloc: Global, program: &Labelled) -> Result<Cminor, NoMemory>
+    // Each form becomes what the translation says.
+    ensures is { IfOk result (λ c. cminor_of c ≡ translated (labelled_of program.now)) }
+
+    // On every script, the program of a checked one shows the events of its meaning and stops where it stops, and touches no other
+    // address of external RAM than those of its data.
+    ensures preserves { IfOk result (λ c. IsChecked (labelled_of program.now) → PreservesSource (source (labelled_of program.now)) (cminor (cminor_of c)) (labelled_of program.now).data_bytes) }
+{
+    translation(alloc, program)
 }

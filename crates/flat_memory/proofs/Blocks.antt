@@ -288,7 +288,7 @@ abbrev pub AllStart : (ℕ → ℕ) → List Placed → Type 0
 AllStart ram [] = Unit {0}
 AllStart ram (b ∷ bs) = StartsAt ram b.at b.cells × AllStart ram bs
 
-rising_ends : (from : ℕ) (bs : List Placed) (to : ℕ) → Rising from bs to → from ≤ to
+pub rising_ends : (from : ℕ) (bs : List Placed) (to : ℕ) → Rising from bs to → from ≤ to
 rising_ends from [] to h = h
 rising_ends from (b ∷ bs) to h = let h0 = h.0 in let q = rising_ends (b.at + length b.cells) bs to h.2 in omega arith
 

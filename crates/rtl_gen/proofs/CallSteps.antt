@@ -1,45 +1,41 @@
 -- Calls, returns and entries of a program of RTLabs are runs of its translation.
-use Rattle.std.proofs.Common.{◌≡◌, ◌≢◌, ℕ, zero, suc, ◌+◌, ◌*◌, ◌%◌, ◌<◌, ◌≤◌, ◌⊎◌, inl, inr, ⊎_elim, List, [], ◌∷◌, ◌++◌, map, length, take, Option, Some, None, Bool, true, false, refl, sym, ap, ap₂, ◌∙◌, subst, arith}
-use Rattle.std.specs.Prelude.{Contains, slice_get, IsPermutation}
-use Rattle.std.proofs.lemmas.Option.{none-some, same_Some, slice_get-get_or}
-use Rattle.cerco_base.specs.Bytes.{bytes_value, count_of_values}
+use Rattle.std.proofs.Common.{◌≡◌, ℕ, suc, ◌+◌, ◌*◌, ◌%◌, ◌<◌, ◌≤◌, inl, inr, List, [], ◌∷◌, map, length, take, Option, Some, None, refl, sym, ap, ◌∙◌, subst, arith}
+use Rattle.std.specs.Prelude.{slice_get, IsPermutation}
+use Rattle.std.proofs.lemmas.Option.{none-some, same_Some}
+use Rattle.cerco_base.specs.Bytes.{count_of_values}
 use Rattle.cerco_base.specs.declared.events.Event.TheVariants as event
-use Rattle.cerco_traces.specs.Systems.{System, EachWithin, IsWithin, Run, here, onward}
+use Rattle.cerco_traces.specs.Systems.{EachWithin, Run}
 use Rattle.cerco_traces.specs.Worlds.{World, shown}
-use Rattle.cerco_traces.specs.LabelledGraphs.{SoundlyLabelled, In}
+use Rattle.cerco_traces.specs.LabelledGraphs.{SoundlyLabelled}
 use Rattle.cerco_traces.proofs.Simulation.{joined}
 use Rattle.cerco_middle.specs.declared.operators.Held.{Held}
-use Rattle.cerco_middle.specs.declared.rtlabs.RtOp.{RtOp}
 use Rattle.cerco_middle.specs.declared.rtlabs.RtOp.TheVariants as op
 use Rattle.cerco_middle.specs.declared.rtlabs.RtNode.{RtNode}
 use Rattle.cerco_middle.specs.Operators.{held_bytes, all_held_bytes, read_from, kept}
-use Rattle.cerco_middle.specs.Calls.{Values, Argument, all_zero, first_variables, returned}
-use Rattle.cerco_middle.specs.RtLabs.Graphs.{RtFunction, RtLabs, parameters_of, flow_graph, next_nodes}
-use Rattle.cerco_middle.specs.RtLabs.Meaning.{RtState, at_node, first_call}
-use Rattle.cerco_middle.specs.RtLabs.WellFormed.{OfFunctions, IsAt, IsAfterCall, HandsOver, at_entry, after_call, onward as further, is_call, and_argument}
-use Rattle.rtl.specs.declared.graphs.Exit.{Exit}
-use Rattle.rtl.specs.declared.graphs.Exit.TheVariants.{Next, Return}
+use Rattle.cerco_middle.specs.Calls.{Values, all_zero, first_variables, returned}
+use Rattle.cerco_middle.specs.RtLabs.Graphs.{RtFunction, RtLabs, parameters_of, flow_graph}
+use Rattle.cerco_middle.specs.RtLabs.Meaning.{at_node, first_call}
+use Rattle.cerco_middle.specs.RtLabs.WellFormed.{OfFunctions, IsAt, HandsOver, at_entry, after_call, onward as further}
 use Rattle.rtl.specs.Operations.{ByteOp}
 use Rattle.rtl.specs.Programs.{Node, Graph}
 use Rattle.rtl.specs.Effects.{Storage, Loc}
-use Rattle.rtl.specs.Graphs.{node_at, ops_at, exit_at}
-use Rattle.rtl.specs.Meaning.{seen, shares_first, OpenCall, State, state, call_at, fresh_call, exit_step}
+use Rattle.rtl.specs.Graphs.{node_at}
+use Rattle.rtl.specs.Meaning.{shares_first, State, state, call_at, exit_step}
 use Rattle.rtl.specs.Meaning.{all_zero as own_zero}
-use Rattle.byte_sequences.specs.Words.{word_from, temporary, variable, argument}
-use Rattle.byte_sequences.specs.Sequences.{held_part}
-use Rattle.byte_sequences.specs.Operations.{result_code, operation_code, operation_exit, operation_node}
-use Rattle.byte_sequences.proofs.Machine.{Cpu, all_done, byte, value, Off}
-use Rattle.byte_sequences.proofs.SoundBytes.{IsByteWorld, HasBytes, all_done_has_bytes}
+use Rattle.byte_sequences.specs.Words.{word_from, temporary}
+use Rattle.byte_sequences.specs.Operations.{result_code, operation_code, operation_node}
+use Rattle.byte_sequences.proofs.Machine.{Cpu, all_done, byte}
+use Rattle.byte_sequences.proofs.SoundBytes.{IsByteWorld, all_done_has_bytes}
 use Rattle.byte_sequences.proofs.OperationLaws.{number, moves_give}
 use Rattle.byte_sequences.proofs.TouchedBytes.{all_touched, calm_bytes, calm_none}
-use Rattle.rtl_gen.specs.Translation.{entry_code, entry_node, translated_function}
+use Rattle.rtl_gen.specs.Translation.{entry_code, entry_node}
 use Rattle.rtl_gen.proofs.Numbered.{graphs_of, graph_is}
 use Rattle.rtl_gen.proofs.Nodes.{node_is, last_node_is, entry_is, new_is}
 use Rattle.rtl_gen.proofs.Running.{seen_own, seen_shared, in_node, ops_run, leaves}
-use Rattle.rtl_gen.proofs.Related.{word_in, scalar_in, scalar_alike, off_scalar, some_bytes, Holds, holds_alike}
-use Rattle.rtl_gen.proofs.Handing.{place_value, from_first, AreHanded, none_handed, all_handed, contains_none}
+use Rattle.rtl_gen.proofs.Related.{scalar_in, scalar_alike, some_bytes, Holds, holds_alike}
+use Rattle.rtl_gen.proofs.Handing.{from_first, none_handed, all_handed, contains_none}
 use Rattle.rtl_gen.proofs.Entered.{entered, calm_entry}
-use Rattle.rtl_gen.proofs.States.{Link, lab_call, OwnBytes, SharedBytes, cpu_of, seen_bytes, NotCall, NotLabel, one_operation, leads, byte_call, ResultIs, result_past_label, called_from, Waits, AllWait, Inside, Fresh, Runs, Mode, over, runs, lab_state, byte_state, Fine}
+use Rattle.rtl_gen.proofs.States.{Link, lab_call, SharedBytes, cpu_of, seen_bytes, NotCall, one_operation, leads, byte_call, ResultIs, result_past_label, called_from, AllWait, Inside, Fresh, Runs, Mode, over, runs, byte_state}
 use Rattle.rtl_gen.proofs.Steps.{length_links, target, Comes, passed, left_to, stands, calm_ops, calm_within, has0, holds0}
 
 module _ (p : RtLabs) (d : ℕ) where

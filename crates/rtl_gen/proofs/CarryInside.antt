@@ -1,10 +1,9 @@
 -- The carry is live in front of no node: each sequence sets it before it uses it.
-use Rattle.std.proofs.Common.{◌≡◌, ◌≢◌, ℕ, zero, suc, ◌+◌, ◌*◌, ◌<◌, ◌≤◌, ◌⊎◌, inl, inr, ⊎_elim, List, [], ◌∷◌, ◌++◌, map, length, take, drop, Option, Some, None, Bool, true, false, refl, sym, ap, ◌∙◌, subst, arith}
+use Rattle.std.proofs.Common.{◌≡◌, ℕ, zero, suc, ◌+◌, ◌*◌, ◌≤◌, ◌⊎◌, inl, inr, ⊎_elim, List, [], ◌∷◌, ◌++◌, map, length, take, drop, Option, Some, None, Bool, true, false, refl, sym, ap, ◌∙◌, subst, arith}
 use Rattle.std.specs.Prelude.{slice_get}
 use Rattle.std.proofs.lemmas.Bool.{cases_lt}
 use Rattle.std.proofs.lemmas.Option.{slice_get-get_or, slice_get_past}
 use Rattle.std.proofs.lemmas.List.{length-append}
-use Rattle.std.proofs.lemmas.Option.{slice_get-map}
 use Rattle.cerco_middle.specs.declared.operators.Held.{Held}
 use Rattle.cerco_middle.specs.declared.operators.Held.TheVariants.{U8, I8, W16}
 use Rattle.cerco_middle.specs.declared.operators.CmOp.{CmOp}
@@ -19,16 +18,15 @@ use Rattle.rtl.specs.declared.graphs.Exit.{Exit}
 use Rattle.rtl.specs.declared.graphs.Exit.TheVariants.{Next, Test, Call, Label, Return}
 use Rattle.rtl.specs.Operations.{ByteOp}
 use Rattle.rtl.specs.Programs.{Node, Graph}
-use Rattle.rtl.specs.Locations.{vreg_number}
-use Rattle.rtl.specs.Effects.{Storage, Loc, Carry, reads, writes}
+use Rattle.rtl.specs.Effects.{Loc, Carry, reads, writes}
 use Rattle.rtl.specs.Graphs.{node_or, node_at, ops_at, exit_at, stay, graph_or}
-use Rattle.rtl.specs.Liveness.{IsAmong, Uses, Overwrites, GoesTo, Live, used, kept, used_by_exit, onward, LiveAt}
+use Rattle.rtl.specs.Liveness.{IsAmong, Uses, Live, used, kept, used_by_exit, onward}
 use Rattle.rtl.specs.CallingConvention.{CarryStaysInside}
-use Rattle.byte_sequences.specs.Words.{word_from, temporary, variable, argument}
+use Rattle.byte_sequences.specs.Words.{word_from, variable, argument}
 use Rattle.byte_sequences.specs.Sequences.{held_part, moves, zeros, extension, reading, sum, repeated, half}
-use Rattle.byte_sequences.specs.Operations.{operator_code, result_code, operation_code, operation_exit, operation_node}
+use Rattle.byte_sequences.specs.Operations.{operator_code, result_code, operation_code, operation_node}
 use Rattle.byte_sequences.proofs.OperationLaws.{number}
-use Rattle.rtl_gen.specs.Translation.{entry_next, entry_code, entry_node, taken, cleared, next_of, all_nodes, nodes_from, translated_function, translated}
+use Rattle.rtl_gen.specs.Translation.{entry_next, entry_code, entry_node, taken, cleared, all_nodes, nodes_from, translated_function}
 use Rattle.rtl_gen.proofs.Nodes.{old_node, new_node, length_nodes_from}
 use Rattle.rtl_gen.proofs.Numbered.{graphs_of, graph_is, no_graph}
 
@@ -36,8 +34,8 @@ use Rattle.rtl_gen.proofs.Numbered.{graphs_of, graph_is, no_graph}
 
 -- each node is that of an operation, the new one, or none
 pub data NodeIs (f : RtFunction) (q : ℕ) : Type 0 where
-  of_operation : (o : RtOp) (r : ℕ) → node_at (translated_function number f) q ≡ operation_node number f.held f.result o r → NodeIs f q
-  of_entry : (r : ℕ) → node_at (translated_function number f) q ≡ entry_node number f.held f.params r → NodeIs f q
+  of_operation : (node : RtNode) (r : ℕ) → slice_get f.nodes q ≡ Some node → node_at (translated_function number f) q ≡ operation_node number f.held f.result node.op r → NodeIs f q
+  of_entry : (r : ℕ) → q ≡ length f.nodes → node_at (translated_function number f) q ≡ entry_node number f.held f.params r → NodeIs f q
   of_none : node_at (translated_function number f) q ≡ stay q → NodeIs f q
 
 pub node_cases : (f : RtFunction) (q : ℕ) → NodeIs f q
@@ -50,10 +48,10 @@ node_cases f q = ⊎_elim
     use_node n is = ap (node_or q) is
 
     old : (node : RtNode) → slice_get f.nodes q ≡ Some node → NodeIs f q
-    old node is = of_operation node.op _ (use_node _ (old_node number f q node is))
+    old node is = of_operation node _ is (use_node _ (old_node number f q node is))
 
     last : q ≡ length f.nodes → NodeIs f q
-    last same = of_entry (entry_next f) (use_node _ (ap (slice_get (all_nodes number f)) same ∙ new_node number f))
+    last same = of_entry (entry_next f) same (use_node _ (ap (slice_get (all_nodes number f)) same ∙ new_node number f))
 
     past : length f.nodes + 1 ≤ q → NodeIs f q
     past far =
@@ -206,8 +204,8 @@ module _ (g : Graph ℕ) (each : (p : ℕ) → SetsFirst (ops_at g p)) where
   carry_inside p live = not_live p (ops_at g p) live (each p)
 
 node_sets : (f : RtFunction) (q : ℕ) → NodeIs f q → SetsFirst (ops_at (translated_function number f) q)
-node_sets f q (of_operation o r is) = subst (λ (n : Node ℕ). SetsFirst n.ops) (sym is) (code_sets f.held f.result o)
-node_sets f q (of_entry r is) = subst (λ (n : Node ℕ). SetsFirst n.ops) (sym is) (entry_sets f.held f.params)
+node_sets f q (of_operation node r at is) = subst (λ (n : Node ℕ). SetsFirst n.ops) (sym is) (code_sets f.held f.result node.op)
+node_sets f q (of_entry r at is) = subst (λ (n : Node ℕ). SetsFirst n.ops) (sym is) (entry_sets f.held f.params)
 node_sets f q (of_none is) = subst (λ (n : Node ℕ). SetsFirst n.ops) (sym is) tt
 
 -- a function that isn't there

@@ -1,10 +1,10 @@
 -- What the new node after the entry does: the parameters take what was handed over, and the other variables stay 0.
-use Rattle.std.proofs.Common.{◌≡◌, ◌≢◌, ℕ, zero, suc, ◌+◌, ◌*◌, ◌%◌, ◌<◌, ◌≤◌, ◌⊎◌, inl, inr, ⊎_elim, List, [], ◌∷◌, ◌++◌, length, take, drop, Option, Some, None, refl, sym, ap, ap₂, ◌∙◌, subst, arith}
+use Rattle.std.proofs.Common.{◌≡◌, ℕ, zero, suc, ◌+◌, ◌*◌, ◌<◌, ◌≤◌, inl, inr, ⊎_elim, List, [], ◌∷◌, length, take, drop, Some, refl, sym, ap, ap₂, ◌∙◌, subst, arith}
 use Rattle.std.specs.Prelude.{Contains, slice_get}
-use Rattle.std.proofs.lemmas.Option.{none-some, same_Some, get_or_from_slice_get}
+use Rattle.std.proofs.lemmas.Option.{none-some, get_or_from_slice_get}
 use Rattle.std.proofs.lemmas.Bool.Decides.{eqb_tells}
 use Rattle.cerco_base.specs.Bytes.{bytes_value}
-use Rattle.cerco_traces.specs.Worlds.{World, update}
+use Rattle.cerco_traces.specs.Worlds.{update}
 use Rattle.cerco_middle.specs.declared.operators.Held.{Held}
 use Rattle.cerco_middle.specs.declared.operators.Held.TheVariants.{U8, I8, W16}
 use Rattle.cerco_middle.specs.Operators.{held_bytes, all_held_bytes, read_from}
@@ -13,8 +13,8 @@ use Rattle.rtl.specs.Operations.{ByteOp, Const}
 use Rattle.rtl.specs.Effects.{Storage, Loc}
 use Rattle.byte_sequences.specs.Words.{word_from, variable, argument}
 use Rattle.byte_sequences.specs.Sequences.{held_part, moves, zeros}
-use Rattle.byte_sequences.proofs.Machine.{Cpu, done, all_done, all_done_append, byte, read, Off, at_same, at_other}
-use Rattle.byte_sequences.proofs.SoundBytes.{HasBytes, AreByteOps, all_done_has_bytes}
+use Rattle.byte_sequences.proofs.Machine.{Cpu, done, all_done, all_done_append, byte, Off, at_same, at_other}
+use Rattle.byte_sequences.proofs.SoundBytes.{HasBytes, all_done_has_bytes}
 use Rattle.byte_sequences.proofs.TouchedBytes.{AreCalm, calm_append, calm_bytes, calm_moves}
 use Rattle.byte_sequences.proofs.OperationLaws.{number, moves_move}
 use Rattle.rtl_gen.specs.Translation.{taken, cleared, entry_code}

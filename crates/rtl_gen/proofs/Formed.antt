@@ -1,6 +1,6 @@
 -- The translation of a well formed program is a well formed program of RTL.
-use Rattle.std.proofs.Common.{◌≡◌, ◌≢◌, ℕ, zero, suc, ◌+◌, ◌<◌, ◌≤◌, ◌⊎◌, ◌↔◌, inl, inr, ⊎_elim, List, [], ◌∷◌, ◌++◌, map, length, Option, Some, None, Bool, true, false, nat_eq, if◌then◌else◌, refl, sym, ap, ap₂, ◌∙◌, subst, arith, eq-eqb, append_assoc, append-nil, get_or}
-use Rattle.std.specs.Prelude.{slice_get, slice_index_or, Contains}
+use Rattle.std.proofs.Common.{◌≡◌, ℕ, zero, suc, ◌+◌, ◌<◌, ◌≤◌, inl, inr, ⊎_elim, List, [], ◌∷◌, ◌++◌, map, length, Option, Some, None, Bool, true, false, nat_eq, if◌then◌else◌, refl, sym, ap, ap₂, ◌∙◌, subst, arith, eq-eqb, append_assoc, append-nil, get_or}
+use Rattle.std.specs.Prelude.{slice_get, Contains}
 use Rattle.std.specs.List.{AllByRecursion}
 use Rattle.std.proofs.lemmas.Option.{none-some, same_Some, slice_get-get_or, slice_get_within}
 use Rattle.std.proofs.lemmas.Bool.{cases_lt}
@@ -10,15 +10,15 @@ use Rattle.cerco_traces.specs.LabelledGraphs.{In, only}
 use Rattle.cerco_middle.specs.declared.rtlabs.RtOp.{RtOp}
 use Rattle.cerco_middle.specs.declared.rtlabs.RtOp.TheVariants as op
 use Rattle.cerco_middle.specs.declared.rtlabs.RtNode.{RtNode}
-use Rattle.cerco_middle.specs.Programs.{times_in, HoldsFunctions, KnowsCallers}
-use Rattle.cerco_middle.specs.RtLabs.Graphs.{RtFunction, RtLabs, next_nodes, label_at, labels_of_nodes, labels_of, callee_at, callees_of, callees_at}
-use Rattle.cerco_middle.specs.RtLabs.WellFormed.{IsWellFormed, IsWellFormedFunction, IsAt, GoesOn, NodesExist, PathsGoOn}
+use Rattle.cerco_middle.specs.Programs.{times_in}
+use Rattle.cerco_middle.specs.RtLabs.Graphs.{RtFunction, RtLabs, next_nodes, labels_of_nodes, labels_of, callees_of, callees_at}
+use Rattle.cerco_middle.specs.RtLabs.WellFormed.{IsWellFormed, IsAt, GoesOn, NodesExist, PathsGoOn}
 use Rattle.rtl.specs.declared.locations.Vreg.{Vreg}
-use Rattle.rtl.specs.Programs.{Node, Graph}
-use Rattle.rtl.specs.WellFormed.{gathered, exit_nodes, exit_functions, exit_labels, functions_in, labels_in, NoneTwice, AreCounted, IsGraph, NamesNodes, NamesFunctions, callers_of, AreCallersFrom, IsRtl, NamesItsVregs}
+use Rattle.rtl.specs.Programs.{Graph}
+use Rattle.rtl.specs.WellFormed.{gathered, exit_nodes, exit_functions, exit_labels, functions_in, labels_in, NoneTwice, AreCounted, IsGraph, NamesNodes, callers_of, AreCallersFrom, IsRtl, NamesItsVregs}
 use Rattle.rtl.specs.WellFormed.{IsWellFormed as IsWellFormedRtl}
-use Rattle.byte_sequences.specs.Operations.{operation_exit, operation_node}
 use Rattle.byte_sequences.specs.Words.{vreg}
+use Rattle.byte_sequences.specs.Operations.{operation_exit}
 use Rattle.rtl_gen.specs.Translation.{next_or, next_of, next_in, entry_next, entry_node, nodes_from, translated_function, translated}
 use Rattle.rtl_gen.proofs.Nodes.{next_other, next_entry}
 use Rattle.rtl_gen.proofs.Handing.{contains_none, contains_cons}

@@ -1,5 +1,5 @@
 -- What the translation keeps of a program.
-use Rattle.std.proofs.Common.{◌≡◌, ℕ, suc, ◌+◌, List, [], ◌∷◌, ◌++◌, map, length, Option, Some, None, refl, sym, ap, ap₂, ◌∙◌, subst, append-nil, append_assoc, length-append}
+use Rattle.std.proofs.Common.{◌≡◌, ℕ, suc, ◌+◌, List, [], ◌∷◌, ◌++◌, map, length, Some, refl, sym, ap, ◌∙◌, subst, append-nil, append_assoc, length-append}
 use Rattle.std.specs.Prelude.{slice_get, option_map}
 use Rattle.std.proofs.lemmas.Option.{same_Some, slice_get-map}
 use Rattle.cerco_middle.specs.declared.rtlabs.RtOp.{RtOp}
@@ -8,10 +8,10 @@ use Rattle.cerco_middle.specs.declared.rtlabs.RtNode.{RtNode}
 use Rattle.cerco_middle.specs.RtLabs.Graphs.{RtFunction, RtLabs, label_at, labels_of_nodes, callee_at, callees_of}
 use Rattle.rtl.specs.declared.locations.Vreg.{Vreg}
 use Rattle.rtl.specs.Programs.{Node, Graph}
-use Rattle.rtl.specs.WellFormed.{gathered, exit_labels, exit_functions, labels_in, functions_in}
-use Rattle.byte_sequences.specs.Operations.{operation_exit}
+use Rattle.rtl.specs.WellFormed.{gathered, exit_labels, exit_functions}
 use Rattle.byte_sequences.specs.Words.{vreg}
-use Rattle.rtl_gen.specs.Translation.{next_of, entry_next, entry_node, nodes_from, all_nodes, translated_function, translated}
+use Rattle.byte_sequences.specs.Operations.{operation_exit}
+use Rattle.rtl_gen.specs.Translation.{next_of, entry_next, entry_node, nodes_from, translated_function, translated}
 use Rattle.rtl_gen.specs.Promises.{KeepsFunction, KeepsProgram}
 use Rattle.rtl_gen.proofs.Nodes.{length_nodes_from}
 

@@ -1,24 +1,24 @@
 -- The graph of a translated function is that of the function, with the new node after the entry, and so it stays soundly labelled.
-use Rattle.std.proofs.Common.{◌≡◌, ◌≢◌, ℕ, zero, suc, ◌+◌, ◌<◌, ◌≤◌, ◌⊎◌, inl, inr, ⊎_elim, List, [], ◌∷◌, ◌++◌, map, length, Option, Some, None, Bool, true, false, nat_eq, if◌then◌else◌, refl, sym, ap, ap₂, ◌∙◌, subst, arith, length-append}
+use Rattle.std.proofs.Common.{◌≡◌, ◌≢◌, ℕ, suc, ◌+◌, ◌<◌, ⊎_elim, List, [], ◌∷◌, map, length, Option, Some, None, Bool, nat_eq, if◌then◌else◌, refl, sym, ap, ap₂, ◌∙◌, subst, arith, length-append}
 use Rattle.std.specs.Prelude.{slice_get, option_map}
 use Rattle.std.proofs.Math.Path.{fun_ext}
 use Rattle.std.proofs.lemmas.Bool.{cases_lt}
 use Rattle.std.proofs.lemmas.Bool.Decides.{eqb_tells}
-use Rattle.std.proofs.lemmas.Option.{none-some, same_Some, slice_get-get_or, slice_get_within, slice_get_past}
-use Rattle.cerco_traces.specs.LabelledGraphs.{NodeKind, LabelNode, BranchNode, CallNode, PlainNode, FlowGraph, LeadsTo, In, IsLabelNode, SoundlyLabelled, successors, inserted}
+use Rattle.std.proofs.lemmas.Option.{slice_get-get_or, slice_get_past}
+use Rattle.cerco_traces.specs.LabelledGraphs.{NodeKind, LabelNode, CallNode, PlainNode, LeadsTo, IsLabelNode, SoundlyLabelled, inserted}
 use Rattle.cerco_traces.proofs.Inserted.{inserted_labelled}
 use Rattle.cerco_middle.specs.declared.operators.Held.{Held}
 use Rattle.cerco_middle.specs.declared.rtlabs.RtOp.{RtOp}
 use Rattle.cerco_middle.specs.declared.rtlabs.RtOp.TheVariants as op
 use Rattle.cerco_middle.specs.declared.rtlabs.RtNode.{RtNode}
-use Rattle.cerco_middle.specs.RtLabs.Graphs.{RtFunction, RtLabs, flow_graph, node_kind, next_nodes}
-use Rattle.cerco_middle.specs.RtLabs.WellFormed.{OfFunctions, OfNodes, IsWellFormed, IsAt, GoesOn, NodesExist, PathsGoOn}
+use Rattle.cerco_middle.specs.RtLabs.Graphs.{RtFunction, RtLabs, flow_graph, node_kind}
+use Rattle.cerco_middle.specs.RtLabs.WellFormed.{IsWellFormed, IsAt, GoesOn, NodesExist, PathsGoOn}
 use Rattle.rtl.specs.declared.locations.Vreg.{Vreg}
-use Rattle.rtl.specs.Programs.{Node, Graph}
+use Rattle.rtl.specs.Programs.{Graph}
 use Rattle.rtl.specs.Graphs.{kind_of, kind_or_none, flow_of, AreSoundlyLabelled}
-use Rattle.byte_sequences.specs.Operations.{operation_code, operation_exit, operation_node}
 use Rattle.byte_sequences.specs.Words.{vreg}
-use Rattle.rtl_gen.specs.Translation.{next_or, next_in, entry_next, next_of, entry_node, nodes_from, all_nodes, translated_function, translated}
+use Rattle.byte_sequences.specs.Operations.{operation_code, operation_exit}
+use Rattle.rtl_gen.specs.Translation.{next_or, next_in, entry_next, entry_node, nodes_from, all_nodes, translated_function, translated}
 use Rattle.rtl_gen.specs.Promises.{GraphsAreLabelled}
 use Rattle.rtl_gen.proofs.Nodes.{old_node, new_node, length_nodes_from, next_other, next_entry}
 

@@ -15,3 +15,8 @@ pub mod Kept
 pub mod Sums
 pub mod Named
 pub mod Formed
+pub mod LivePaths
+pub mod Fronts
+pub mod Entries
+pub mod ArgumentPlaces
+pub mod Conventional

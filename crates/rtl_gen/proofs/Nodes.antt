@@ -1,16 +1,15 @@
 -- What stands in the graph of a translated function.
-use Rattle.std.proofs.Common.{◌≡◌, ◌≢◌, ℕ, zero, suc, ◌+◌, ◌<◌, List, [], ◌∷◌, ◌++◌, map, length, Option, Some, None, Bool, true, false, nat_eq, if◌then◌else◌, refl, sym, ap, ap₂, ◌∙◌, subst, arith, eq-eqb, ne_eqb}
+use Rattle.std.proofs.Common.{◌≡◌, ◌≢◌, ℕ, zero, suc, ◌+◌, List, [], ◌∷◌, ◌++◌, length, Option, Some, None, if◌then◌else◌, refl, sym, ap, ap₂, ◌∙◌, arith, eq-eqb, ne_eqb}
 use Rattle.std.specs.Prelude.{slice_get}
-use Rattle.std.proofs.lemmas.Option.{none-some, same_Some, slice_get_within}
+use Rattle.std.proofs.lemmas.Option.{none-some, same_Some}
 use Rattle.cerco_middle.specs.declared.rtlabs.RtOp.{RtOp}
 use Rattle.cerco_middle.specs.declared.rtlabs.RtNode.{RtNode}
 use Rattle.cerco_middle.specs.RtLabs.Graphs.{RtFunction}
 use Rattle.cerco_middle.specs.RtLabs.WellFormed.{IsAt}
-use Rattle.rtl.specs.Programs.{Node, Graph}
-use Rattle.rtl.specs.Graphs.{node_or, node_at, ops_at, exit_at}
-use Rattle.byte_sequences.specs.Operations.{operation_code, operation_exit, operation_node}
+use Rattle.rtl.specs.Graphs.{node_or, node_at}
+use Rattle.byte_sequences.specs.Operations.{operation_node}
 use Rattle.byte_sequences.proofs.OperationLaws.{number}
-use Rattle.rtl_gen.specs.Translation.{next_or, next_of, next_in, entry_next, entry_code, entry_node, nodes_from, all_nodes, translated_function}
+use Rattle.rtl_gen.specs.Translation.{next_or, next_of, next_in, entry_next, entry_node, nodes_from, all_nodes, translated_function}
 
 append_first : {A : Type 0} (xs ys : List A) (i : ℕ) (x : A) → slice_get xs i ≡ Some x → slice_get (xs ++ ys) i ≡ Some x
 append_first [] ys i x is = absurd (none-some x is)

@@ -1,5 +1,5 @@
 -- The translated program with numbers for its virtual registers is the translation over numbers.
-use Rattle.std.proofs.Common.{◌≡◌, ℕ, zero, suc, ◌+◌, ◌*◌, ◌<◌, List, [], ◌∷◌, ◌++◌, map, length, take, drop, Bool, true, false, Option, Some, None, nat_eq, if◌then◌else◌, refl, sym, ap, ap₂, ◌∙◌, arith}
+use Rattle.std.proofs.Common.{◌≡◌, ℕ, zero, suc, ◌+◌, ◌*◌, List, [], ◌∷◌, ◌++◌, map, length, take, drop, Bool, true, false, Option, Some, None, refl, ap, ap₂, ◌∙◌}
 use Rattle.std.specs.Prelude.{slice_get, option_map}
 use Rattle.std.proofs.lemmas.List.{map-append}
 use Rattle.std.proofs.lemmas.Option.{slice_get-map}
@@ -16,14 +16,14 @@ use Rattle.cerco_middle.specs.RtLabs.Graphs.{RtFunction, RtLabs}
 use Rattle.rtl.specs.declared.locations.Vreg.{Vreg}
 use Rattle.rtl.specs.declared.graphs.Exit.TheVariants.{Next}
 use Rattle.rtl.specs.Operations.{ByteOp}
-use Rattle.rtl.specs.Programs.{Node, Graph}
+use Rattle.rtl.specs.Programs.{Graph}
 use Rattle.rtl.specs.Locations.{vreg_number}
 use Rattle.rtl.specs.Graphs.{renamed_op, renamed_exit, renamed_node, renamed_graph, graph_or, graph_at, numbered}
-use Rattle.byte_sequences.specs.Words.{vreg, word_from, temporary, variable, argument, scratch}
+use Rattle.byte_sequences.specs.Words.{word_from, temporary, variable, argument, scratch, vreg}
 use Rattle.byte_sequences.specs.Sequences.{held_part, moves, zeros, extension, reading, load, store, sum, repeated, half}
 use Rattle.byte_sequences.specs.Operations.{operator_code, result_code, operation_code, operation_exit, operation_node}
 use Rattle.byte_sequences.proofs.OperationLaws.{number}
-use Rattle.rtl_gen.specs.Translation.{next_or, next_of, entry_next, taken, cleared, entry_code, entry_node, nodes_from, all_nodes, translated_function, translated}
+use Rattle.rtl_gen.specs.Translation.{next_of, entry_next, taken, cleared, entry_node, nodes_from, translated_function, translated}
 
 -- operations with numbers for their virtual registers
 abbrev numbered_ops : List (ByteOp Vreg) → List (ByteOp ℕ)

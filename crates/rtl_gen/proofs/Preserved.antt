@@ -1,11 +1,11 @@
 -- The translation of a program of RTLabs preserves its traces.
-use Rattle.std.proofs.Common.{◌≡◌, ◌≢◌, ℕ, zero, suc, ◌+◌, ◌*◌, ◌<◌, ◌≤◌, ◌^◌, ◌⊎◌, inl, inr, ⊎_elim, List, [], ◌∷◌, ◌++◌, map, length, take, Option, Some, None, Bool, true, false, IsTrue, refl, sym, ap, ap₂, ◌∙◌, subst, arith}
+use Rattle.std.proofs.Common.{◌≡◌, ℕ, suc, ◌<◌, ◌≤◌, ◌⊎◌, inl, inr, ⊎_elim, List, [], ◌∷◌, map, length, take, Option, Some, None, true, false, IsTrue, refl, sym, ap, ◌∙◌, subst, arith}
 use Rattle.std.specs.Prelude.{Contains, slice_get, option_map}
-use Rattle.std.proofs.lemmas.Option.{none-some, same_Some, slice_get-get_or}
+use Rattle.std.proofs.lemmas.Option.{slice_get-get_or}
 use Rattle.std.proofs.lemmas.Bool.Decides.{eqb_tells}
 use Rattle.cerco_base.specs.Events.{IsScript, IsPrefix}
 use Rattle.cerco_traces.specs.Systems.{System, EachWithin, IsWithin, Run, here}
-use Rattle.cerco_traces.specs.Preservation.{PreservesFor, Preserves}
+use Rattle.cerco_traces.specs.Preservation.{Preserves}
 use Rattle.cerco_traces.specs.Worlds.{World, update, started_from, start_world}
 use Rattle.cerco_traces.specs.LabelledGraphs.{SoundlyLabelled, IsLabelNode}
 use Rattle.cerco_traces.proofs.WorldLaws.{update_same, update_other}
@@ -14,24 +14,21 @@ use Rattle.cerco_middle.specs.declared.operators.Held.{Held}
 use Rattle.cerco_middle.specs.declared.rtlabs.RtOp.{RtOp}
 use Rattle.cerco_middle.specs.declared.rtlabs.RtOp.TheVariants as op
 use Rattle.cerco_middle.specs.declared.rtlabs.RtNode.{RtNode}
-use Rattle.cerco_middle.specs.Calls.{Values, Argument, all_zero, arguments_from, first_variables}
+use Rattle.cerco_middle.specs.Calls.{Values, all_zero, arguments_from, first_variables}
 use Rattle.cerco_middle.specs.Programs.{AreBytesAtAddresses}
-use Rattle.cerco_middle.specs.RtLabs.Graphs.{RtFunction, RtLabs, parameters_of, flow_graph, node_kind}
-use Rattle.cerco_middle.specs.RtLabs.Meaning.{RtState, at_node, first_call, main_call, op_step, node_step, called, op_touched, node_touched, op_due, node_due, rtlabs}
-use Rattle.cerco_middle.specs.RtLabs.WellFormed.{OfFunctions, IsWellFormed, IsWellFormedFunction, IsAt, GoesOn, ReturnsAs, TakesExactly, IsWithinTwelve, HasCame}
+use Rattle.cerco_middle.specs.RtLabs.Graphs.{RtFunction, RtLabs, flow_graph, node_kind}
+use Rattle.cerco_middle.specs.RtLabs.Meaning.{RtState, main_call, op_step, node_step, called, op_touched, node_touched, op_due, node_due, rtlabs}
+use Rattle.cerco_middle.specs.RtLabs.WellFormed.{OfFunctions, IsWellFormed, IsWellFormedFunction, IsAt, GoesOn, ReturnsAs}
 use Rattle.rtl.specs.Programs.{Node, Graph}
-use Rattle.rtl.specs.Effects.{Storage, Loc}
+use Rattle.rtl.specs.Effects.{Storage}
 use Rattle.rtl.specs.Graphs.{node_at, exit_at}
 use Rattle.rtl.specs.Meaning.{State, state, call_at, label_comes, rtl}
 use Rattle.rtl.specs.Meaning.{all_zero as own_zero}
-use Rattle.byte_sequences.specs.Operations.{operation_node}
-use Rattle.byte_sequences.proofs.OperationLaws.{number}
 use Rattle.byte_sequences.proofs.MoveLaws.{AllBytes}
-use Rattle.byte_sequences.proofs.SoundBytes.{IsByteWorld}
-use Rattle.rtl_gen.specs.Translation.{translated_function, translated}
+use Rattle.rtl_gen.specs.Translation.{translated}
 use Rattle.rtl_gen.proofs.Numbered.{graphs_of, graph_is}
 use Rattle.rtl_gen.proofs.Nodes.{node_is, entry_is}
-use Rattle.rtl_gen.proofs.Handing.{contains_none, contains_cons}
+use Rattle.rtl_gen.proofs.Handing.{contains_none}
 use Rattle.rtl_gen.proofs.States.{Link, lab_call, byte_call, Inside, Fresh, Runs, Mode, over, runs, lab_state, byte_state, Fine, Relates}
 use Rattle.rtl_gen.proofs.Steps.{length_links, Comes, const_step, get_step, neg_step, not_step, narrow_step, bin_step, shl_step, shr_step, result_step, put_step, load_step, store_step, read_step, write_step, arg_step, label_step, test_step}
 use Rattle.rtl_gen.proofs.CallSteps.{return_step, return_value_step, call_step, entry_step}

@@ -1,17 +1,17 @@
 -- Where the values of a call of RTLabs are held in a call of RTL.
-use Rattle.std.proofs.Common.{◌≡◌, ◌≢◌, ℕ, zero, suc, ◌+◌, ◌*◌, ◌%◌, ◌<◌, ◌≤◌, ◌⊎◌, inl, inr, ⊎_elim, List, [], ◌∷◌, ◌++◌, length, Option, Some, None, Bool, true, false, refl, sym, ap, ap₂, ◌∙◌, subst, arith}
+use Rattle.std.proofs.Common.{◌≡◌, ◌≢◌, ℕ, ◌+◌, ◌*◌, ◌<◌, ◌≤◌, ◌⊎◌, inl, inr, ⊎_elim, List, [], ◌∷◌, sym, ap, ap₂, ◌∙◌, arith}
 use Rattle.std.proofs.lemmas.Bool.Decides.{eqb_tells}
-use Rattle.cerco_base.specs.Bytes.{bytes_value, count_of_values}
-use Rattle.cerco_traces.specs.Worlds.{World, update}
+use Rattle.cerco_base.specs.Bytes.{bytes_value}
+use Rattle.cerco_traces.specs.Worlds.{update}
 use Rattle.cerco_traces.proofs.WorldLaws.{update_same, update_other}
 use Rattle.cerco_middle.specs.declared.operators.Held.{Held}
 use Rattle.cerco_middle.specs.declared.operators.Held.TheVariants.{U8, I8, W16}
-use Rattle.cerco_middle.specs.Operators.{held_bytes, read_from, kept}
-use Rattle.cerco_middle.specs.Calls.{Values, Argument, variable_held}
+use Rattle.cerco_middle.specs.Operators.{held_bytes, read_from}
+use Rattle.cerco_middle.specs.Calls.{Values, variable_held}
 use Rattle.rtl.specs.Effects.{Storage, Loc}
-use Rattle.byte_sequences.specs.Words.{word_from, temporary, variable, argument}
+use Rattle.byte_sequences.specs.Words.{word_from, temporary, variable}
 use Rattle.byte_sequences.specs.Sequences.{held_part}
-use Rattle.byte_sequences.proofs.Machine.{Cpu, read, Off}
+use Rattle.byte_sequences.proofs.Machine.{read, Off}
 use Rattle.byte_sequences.proofs.OperationLaws.{number, off_part}
 
 -- ---- words that are seen alike

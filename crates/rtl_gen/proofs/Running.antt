@@ -1,12 +1,11 @@
 -- How a run goes through the operations of a node.
-use Rattle.std.proofs.Common.{◌≡◌, ℕ, zero, suc, ◌+◌, ◌≤◌, ◌<◌, List, [], ◌∷◌, ◌++◌, length, Bool, true, false, nat_lt, if◌then◌else◌, refl, sym, ap, ap₂, ◌∙◌, subst, arith, lt-ltb}
-use Rattle.cerco_traces.specs.Systems.{System, EachWithin, IsWithin, Run, here, onward}
+use Rattle.std.proofs.Common.{◌≡◌, ℕ, suc, ◌≤◌, ◌<◌, List, [], ◌∷◌, length, false, nat_lt, if◌then◌else◌, sym, ap, subst, arith, lt-ltb}
+use Rattle.cerco_traces.specs.Systems.{System, EachWithin, Run, here, onward}
 use Rattle.cerco_traces.specs.Worlds.{World}
-use Rattle.cerco_traces.proofs.Simulation.{joined, each_front, each_back}
+use Rattle.cerco_traces.proofs.Simulation.{each_front, each_back}
 use Rattle.rtl.specs.Operations.{ByteOp}
-use Rattle.rtl.specs.declared.graphs.Exit.{Exit}
 use Rattle.rtl.specs.Programs.{Graph}
-use Rattle.rtl.specs.Effects.{Storage, Loc, Carry, Effect, effect}
+use Rattle.rtl.specs.Effects.{Storage, Loc, Effect, effect}
 use Rattle.rtl.specs.Meaning.{seen, shared_after, own_after, shares_first, OpenCall, State, state, after_op, graph_system}
 use Rattle.rtl.proofs.EffectLaws.{effect_same}
 use Rattle.rtl.proofs.ValueLaws.{seen_after}

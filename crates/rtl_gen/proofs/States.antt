@@ -1,5 +1,5 @@
 -- The relation between the states of a program of RTLabs and those of its translation. Both states are computed from one mode.
-use Rattle.std.proofs.Common.{◌≡◌, ◌≢◌, ℕ, zero, suc, ◌+◌, ◌*◌, ◌<◌, ◌≤◌, ◌⊎◌, inl, inr, ⊎_elim, List, [], ◌∷◌, ◌++◌, map, length, Option, Some, None, Bool, true, false, refl, sym, ap, ap₂, ◌∙◌, subst, arith}
+use Rattle.std.proofs.Common.{◌≡◌, ◌≢◌, ℕ, suc, ◌+◌, ◌<◌, ◌≤◌, ◌⊎◌, inl, ⊎_elim, List, [], ◌∷◌, map, length, Some, true, false, refl, sym, ap, ◌∙◌, subst}
 use Rattle.std.specs.Prelude.{Contains, slice_get, option_map}
 use Rattle.std.proofs.lemmas.Bool.{cases_lt}
 use Rattle.std.proofs.lemmas.Option.{same_Some}
@@ -17,7 +17,6 @@ use Rattle.cerco_middle.specs.RtLabs.WellFormed.{IsAt, IsAfterCall, HandsOver, i
 use Rattle.rtl.specs.Effects.{Storage, Loc}
 use Rattle.rtl.specs.Meaning.{seen, shares_first, OpenCall, State, state, call_at}
 use Rattle.byte_sequences.proofs.Machine.{Cpu}
-use Rattle.byte_sequences.proofs.Chains.{HoldBytes}
 use Rattle.byte_sequences.proofs.SoundBytes.{IsByteWorld, HasBytes}
 use Rattle.rtl_gen.proofs.Numbered.{graphs_of}
 use Rattle.rtl_gen.proofs.Running.{seen_own, seen_shared}

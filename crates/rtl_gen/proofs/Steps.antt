@@ -1,13 +1,13 @@
 -- Each step of a program of RTLabs is a run of its translation.
-use Rattle.std.proofs.Common.{◌≡◌, ◌≢◌, ℕ, zero, suc, ◌+◌, ◌*◌, ◌%◌, ◌<◌, ◌≤◌, ◌⊎◌, inl, inr, ⊎_elim, List, [], ◌∷◌, ◌++◌, map, length, take, Option, Some, None, Bool, true, false, refl, sym, ap, ap₂, ◌∙◌, subst, arith}
-use Rattle.std.specs.Prelude.{Contains, slice_get, IsPermutation}
+use Rattle.std.proofs.Common.{◌≡◌, ◌≢◌, ℕ, zero, suc, ◌+◌, ◌*◌, ◌%◌, ◌<◌, ◌≤◌, inl, inr, ⊎_elim, List, [], ◌∷◌, map, length, Option, Some, None, Bool, false, refl, sym, ap, ap₂, ◌∙◌, subst, arith}
+use Rattle.std.specs.Prelude.{Contains}
 use Rattle.std.proofs.lemmas.List.Elements.{Contains-append_cases}
 use Rattle.std.proofs.Math.Nat.{mod-eq_of_lt}
-use Rattle.cerco_base.specs.Bytes.{bytes_value, count_of_values}
+use Rattle.cerco_base.specs.Bytes.{count_of_values}
 use Rattle.cerco_base.specs.Events.{next_reading}
 use Rattle.cerco_base.specs.declared.events.Event.TheVariants as event
 use Rattle.cerco_base.specs.declared.events.Port.TheVariants.{P1}
-use Rattle.cerco_traces.specs.Systems.{System, EachWithin, IsWithin, Run, here, onward}
+use Rattle.cerco_traces.specs.Systems.{System, EachWithin, Run}
 use Rattle.cerco_traces.specs.Worlds.{World, update, shown, after_reading}
 use Rattle.cerco_traces.specs.LabelledGraphs.{SoundlyLabelled, In}
 use Rattle.cerco_traces.proofs.Simulation.{joined}
@@ -15,14 +15,13 @@ use Rattle.cerco_middle.specs.declared.operators.Held.{Held}
 use Rattle.cerco_middle.specs.declared.operators.CmOp.{CmOp}
 use Rattle.cerco_middle.specs.declared.rtlabs.RtOp.{RtOp}
 use Rattle.cerco_middle.specs.declared.rtlabs.RtOp.TheVariants as op
-use Rattle.cerco_middle.specs.declared.rtlabs.RtNode.{RtNode}
 use Rattle.cerco_middle.specs.Operators.{word_bytes, as_word, held_bytes, read_from, kept, held_at, held_in, held_addresses, negated, complement, shifted_left, shifted_right, operator_value, low_byte}
 use Rattle.cerco_middle.specs.Operators.{branch as value_branch}
-use Rattle.cerco_middle.specs.Calls.{Values, Argument, all_zero, first_variables, assigned, returned, variable_held}
+use Rattle.cerco_middle.specs.Calls.{Values, Argument, assigned, variable_held}
 use Rattle.cerco_middle.proofs.OperatorLaws.{kept_twice}
 use Rattle.cerco_middle.specs.RtLabs.Graphs.{RtFunction, RtLabs, flow_graph, next_nodes}
 use Rattle.cerco_middle.specs.RtLabs.Meaning.{RtState, at_node}
-use Rattle.cerco_middle.specs.RtLabs.WellFormed.{OfFunctions, IsWellFormed, IsAt, IsAfterCall, HandsOver, onward as further, is_call, and_argument}
+use Rattle.cerco_middle.specs.RtLabs.WellFormed.{IsAt, IsAfterCall, onward as further, is_call, and_argument}
 use Rattle.rtl.specs.declared.graphs.Exit.TheVariants.{Next}
 use Rattle.rtl.specs.Operations.{ByteOp}
 use Rattle.rtl.specs.Programs.{Node, Graph}
@@ -30,7 +29,7 @@ use Rattle.rtl.specs.Effects.{Storage, Loc}
 use Rattle.rtl.specs.Graphs.{node_at}
 use Rattle.rtl.specs.Meaning.{seen, shares_first, OpenCall, State, state, call_at, exit_step}
 use Rattle.rtl.specs.Meaning.{branch as byte_branch}
-use Rattle.byte_sequences.specs.Words.{word_from, temporary, variable, argument}
+use Rattle.byte_sequences.specs.Words.{word_from, temporary}
 use Rattle.byte_sequences.specs.Sequences.{held_part, load, store}
 use Rattle.byte_sequences.specs.Operations.{operation_code, operation_exit, operation_node}
 use Rattle.byte_sequences.proofs.Machine.{Cpu, all_done, byte, value, Off}
@@ -43,7 +42,7 @@ use Rattle.byte_sequences.proofs.TouchedBytes.{all_touched, LeavesMemory, calm_c
 use Rattle.rtl_gen.specs.Translation.{translated_function}
 use Rattle.rtl_gen.proofs.Numbered.{graphs_of, graph_is}
 use Rattle.rtl_gen.proofs.Nodes.{node_is, last_node_is}
-use Rattle.rtl_gen.proofs.Running.{seen_own, seen_shared, in_node, Y, Ran, ops_run, leaves}
+use Rattle.rtl_gen.proofs.Running.{seen_own, seen_shared, in_node, Y, ops_run, leaves}
 use Rattle.rtl_gen.proofs.Related.{word_in, scalar_in, scalar_alike, off_scalar, some_bytes, Holds, holds_alike, holds_temporary, holds_variable}
 use Rattle.rtl_gen.proofs.Handing.{contains_none, contains_cons, AreHanded, handed_alike, one_handed}
 use Rattle.rtl_gen.proofs.States.{Link, lab_call, OwnBytes, SharedBytes, cpu_of, seen_bytes, NotLabel, leads, byte_call, ResultIs, no_result, result_past_label, Inside, Runs, Mode, runs, lab_state, byte_state, Fine}

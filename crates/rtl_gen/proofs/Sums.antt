@@ -1,5 +1,5 @@
 -- The length of the translation is at most that of the program.
-use Rattle.std.proofs.Common.{◌≡◌, ℕ, zero, suc, ◌+◌, ◌*◌, ◌-◌, ◌≤◌, List, [], ◌∷◌, ◌++◌, map, length, take, drop, Option, Some, None, Bool, true, false, nat_eq, if◌then◌else◌, refl, sym, ap, ap₂, ◌∙◌, subst, arith}
+use Rattle.std.proofs.Common.{◌≡◌, ℕ, zero, suc, ◌+◌, ◌*◌, ◌≤◌, List, [], ◌∷◌, ◌++◌, map, length, take, drop, Option, Some, None, Bool, true, false, nat_eq, if◌then◌else◌, ap, arith}
 use Rattle.cerco_middle.specs.declared.operators.Held.{Held}
 use Rattle.cerco_middle.specs.declared.operators.Held.TheVariants.{U8, I8, W16}
 use Rattle.cerco_middle.specs.declared.operators.CmOp.{CmOp}
@@ -9,19 +9,18 @@ use Rattle.cerco_middle.specs.declared.rtlabs.RtOp.TheVariants as op
 use Rattle.cerco_middle.specs.declared.rtlabs.RtNode.{RtNode}
 use Rattle.cerco_middle.specs.Operators.{held_bytes, all_held_bytes}
 use Rattle.cerco_middle.specs.Calls.{variable_held}
-use Rattle.cerco_middle.specs.Lengths.{extension_length, operator_length, shift_left_length, shift_right_length, return_value_length, entry_length}
+use Rattle.cerco_middle.specs.Lengths.{extension_length, operator_length, return_value_length, entry_length}
 use Rattle.cerco_middle.specs.RtLabs.Graphs.{RtFunction, RtLabs}
 use Rattle.cerco_middle.specs.RtLabs.Sums as labs
 use Rattle.rtl.specs.Operations.{ByteOp}
-use Rattle.rtl.specs.Programs.{Node, Graph}
 use Rattle.rtl.specs.Locations.{vreg_number}
 use Rattle.rtl.specs.Graphs.{renamed_graph}
 use Rattle.rtl.specs.Lengths.{total, op_length, exit_length, node_length, graph_length, vreg_length}
-use Rattle.byte_sequences.specs.Words.{vreg, word_from, temporary, variable, argument}
+use Rattle.byte_sequences.specs.Words.{word_from, variable, argument, vreg}
 use Rattle.byte_sequences.specs.Sequences.{held_part, moves, zeros, extension, reading, load, store, sum, repeated, half}
 use Rattle.byte_sequences.specs.Operations.{operator_code, result_code, operation_code, operation_exit}
 use Rattle.byte_sequences.proofs.OperationLaws.{number}
-use Rattle.rtl_gen.specs.Translation.{next_of, entry_next, entry_code, entry_node, taken, cleared, nodes_from, translated_function, translated}
+use Rattle.rtl_gen.specs.Translation.{next_of, entry_next, entry_node, taken, cleared, nodes_from, translated_function, translated}
 use Rattle.rtl_gen.proofs.Numbered.{function_numbered}
 
 pub total_append : {A : Type 0} (f : A → ℕ) (xs ys : List A) → total f (xs ++ ys) ≡ total f xs + total f ys

@@ -1,7 +1,7 @@
 -- What a program of RTLabs becomes in RTL (CerCo, deliverable 4.2: from RTLabs to RTL): each node the node with the byte operations of its
 -- operation, under the same number. A new node comes last. It stands between the entry and what came after it, takes the parameters
 -- from their argument places, and sets the other variables to 0.
-use Rattle.std.specs.Prelude.{ℕ, zero, suc, ◌+◌, List, [], ◌∷◌, ◌++◌, length, map, take, drop, Option, Some, None, slice_get, nat_eq, if◌then◌else◌}
+use Rattle.std.specs.Prelude.{ℕ, ◌+◌, List, [], ◌∷◌, ◌++◌, length, map, take, drop, Option, Some, None, slice_get, nat_eq, if◌then◌else◌}
 use Rattle.cerco_middle.specs.declared.operators.Held.{Held}
 use Rattle.cerco_middle.specs.declared.rtlabs.RtOp.{RtOp}
 use Rattle.cerco_middle.specs.declared.rtlabs.RtNode.{RtNode}

@@ -8,7 +8,7 @@ ghost use Rattle.cerco_middle.specs.Code.Views.{rtlabs_of};
 ghost use Rattle.cerco_middle.specs.RtLabs.Meaning.{rtlabs};
 ghost use Rattle.cerco_middle.specs.RtLabs.Sums.{long_length};
 ghost use Rattle.cerco_middle.specs.RtLabs.WellFormed.{IsWellFormed};
-ghost use Rattle.rtl.specs.CallingConvention.{CarryStaysInside};
+ghost use Rattle.rtl.specs.CallingConvention.{RespectsConvention, CarryStaysInside};
 ghost use Rattle.rtl.specs.Code.Views.{program_of};
 ghost use Rattle.rtl.specs.Graphs.{graph_at, numbered, AreSoundlyLabelled};
 ghost use Rattle.rtl.specs.Lengths.{vreg_length};
@@ -54,6 +54,7 @@ pub fn to_rtl(alloc: Global, program: &RtLabs) -> Result<Bytes<Vreg>, NoMemory>
     ensures preserves { IfOk result (λ bytes. IsWellFormed (rtlabs_of program.now) → GraphsAreLabelled (rtlabs_of program.now) → Preserves (rtlabs (rtlabs_of program.now)) (rtl_run (program_of bytes))) }
     ensures formed { IfOk result (λ bytes. IsWellFormed (rtlabs_of program.now) → IsRtl (program_of bytes)) }
     ensures labelled { IfOk result (λ bytes. IsWellFormed (rtlabs_of program.now) → GraphsAreLabelled (rtlabs_of program.now) → AreSoundlyLabelled (program_of bytes).graphs) }
+    ensures conventional { IfOk result (λ bytes. IsWellFormed (rtlabs_of program.now) → GraphsAreLabelled (rtlabs_of program.now) → RespectsConvention 12 (graph_at (numbered vreg_number (program_of bytes)))) }
     ensures carry { IfOk result (λ bytes. (f : ℕ) → CarryStaysInside 12 (graph_at (numbered vreg_number (program_of bytes)) f)) }
     ensures same { IfOk result (λ bytes. KeepsProgram (rtlabs_of program.now) (program_of bytes)) }
     ensures length { IfOk result (λ bytes. vreg_length (program_of bytes) ≤ long_length (rtlabs_of program.now)) }

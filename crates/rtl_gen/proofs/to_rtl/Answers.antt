@@ -1,11 +1,11 @@
 -- The clauses hold of the translation, and the program is its translation.
-use Rattle.std.proofs.Common.{◌≡◌, ℕ, ◌≤◌}
+use Rattle.std.proofs.Common.{ℕ, ◌≤◌}
 use Rattle.cerco_traces.specs.Preservation.{Preserves}
 use Rattle.cerco_middle.specs.Code.Views.{rtlabs_of}
 use Rattle.cerco_middle.specs.RtLabs.Meaning.{rtlabs}
 use Rattle.cerco_middle.specs.RtLabs.Sums.{long_length}
 use Rattle.cerco_middle.specs.RtLabs.WellFormed.{IsWellFormed}
-use Rattle.rtl.specs.CallingConvention.{CarryStaysInside}
+use Rattle.rtl.specs.CallingConvention.{RespectsConvention, CarryStaysInside}
 use Rattle.rtl.specs.Code.Views.{program_of}
 use Rattle.rtl.specs.Graphs.{graph_at, numbered, AreSoundlyLabelled}
 use Rattle.rtl.specs.Lengths.{vreg_length}
@@ -18,6 +18,7 @@ use Rattle.rtl_gen.proofs.Results.{holds_of_result}
 use Rattle.rtl_gen.proofs.Preserved.{translation_preserves}
 use Rattle.rtl_gen.proofs.Formed.{translation_formed}
 use Rattle.rtl_gen.proofs.Labelled.{translation_labelled}
+use Rattle.rtl_gen.proofs.Conventional.{translation_conventional}
 use Rattle.rtl_gen.proofs.CarryInside.{translation_carry}
 use Rattle.rtl_gen.proofs.Kept.{translation_keeps}
 use Rattle.rtl_gen.proofs.Sums.{translation_length}
@@ -38,6 +39,11 @@ pub returns-clause-labelled : goal.returns-clause-labelled
 returns-clause-labelled c =
     let source = rtlabs_of c.args.program.now in
     holds_of_result program_of (translated source) (λ b. IsWellFormed source → GraphsAreLabelled source → AreSoundlyLabelled b.graphs) (translation_labelled source) c.translation.result c.translation.ensures
+
+pub returns-clause-conventional : goal.returns-clause-conventional
+returns-clause-conventional c =
+    let source = rtlabs_of c.args.program.now in
+    holds_of_result program_of (translated source) (λ b. IsWellFormed source → GraphsAreLabelled source → RespectsConvention 12 (graph_at (numbered vreg_number b))) (translation_conventional source) c.translation.result c.translation.ensures
 
 pub returns-clause-carry : goal.returns-clause-carry
 returns-clause-carry c =

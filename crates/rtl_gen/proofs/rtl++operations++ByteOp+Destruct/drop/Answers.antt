@@ -1,5 +1,5 @@
 -- A location has one of two sizes, and at each of them an operation fits in memory.
-use Rattle.std.proofs.Common.{rules, arith, inl, inr}
+use Rattle.std.proofs.Common.{arith, inl, inr}
 use Rattle.rtl_gen.proofs.rtl++operations++ByteOp+Destruct.drop.Goals as goal
 
 pub drop-requires : goal.drop-requires
