@@ -4,11 +4,11 @@ ghost use Rattle.std.specs.Option.{option_map};
 ghost use Rattle.cerco_base.specs.declared.reasons.Fault.TheVariants.{Refused};
 ghost use Rattle.cerco_base.specs.declared.reasons.Reason.TheVariants.{Typing};
 ghost use Rattle.clight_source.specs.Code.Views.{expr_of as source_of};
-ghost use Rattle.clight_syntax.specs.Code.TypedViews.{expr_of, cond_of};
 ghost use Rattle.clight_types.specs.TypedExpressions.{judged_number, value_in as value_in_lem, condition_in as condition_in_lem, place_in as place_in_lem, in_parentheses as in_parentheses_lem, expr_place, bare_place as bare_place_lem, words_start as words_start_lem};
 ghost use Rattle.clight_types.specs.Outcomes.{Gives};
-ghost use Rattle.clight_types.specs.Code.HeldJudged.{judged_of};
+ghost use Rattle.clight_types.specs.Code.HeldJudged.{judged_of, expr_in, cond_in};
 
+use crate::boxes::boxed;
 use crate::operands::{carried, has_value, is_scalar_value};
 use c_types::Size;
 use cerco_base::{Fault, Reason, TypeKind};
@@ -21,9 +21,9 @@ use std::alloc::Global;
 #[derive(Drop)]
 pub enum Judged {
     /// It has a type.
-    Typed(Expr),
+    Typed(Box<Expr>),
     /// `!`, `&&` and `||`, in any parentheses, are conditions and have no type.
-    Logical(Cond<()>),
+    Logical(Box<Cond<()>>),
     /// The name of a function, in any parentheses, has none either.
     NoVariable,
 }
@@ -86,8 +86,8 @@ pub fn words_start(words: Specifiers) -> u32
 }
 
 /// An expression where a value is needed. Refused with `Value` where it has none.
-pub fn value_in(source: &tree::Expr, judged: Judged) -> Result<Expr, Fault>
-    ensures { Gives expr_of result (value_in_lem (source_of source.now) (judged_of judged)) }
+pub fn value_in(source: &tree::Expr, judged: Judged) -> Result<Box<Expr>, Fault>
+    ensures { Gives expr_in result (value_in_lem (source_of source.now) (judged_of judged)) }
 {
     match judged {
         Judged::Typed(e) => {
@@ -103,13 +103,18 @@ pub fn value_in(source: &tree::Expr, judged: Judged) -> Result<Expr, Fault>
 }
 
 /// An expression where a condition is needed. Refused with `Condition` where it is none.
-pub fn condition_in(source: &tree::Expr, judged: Judged) -> Result<Cond<()>, Fault>
-    ensures { Gives cond_of result (condition_in_lem (source_of source.now) (judged_of judged)) }
+pub fn condition_in(
+    alloc: Global,
+    source: &tree::Expr,
+    judged: Judged,
+) -> Result<Box<Cond<()>>, Fault>
+    ensures { Gives cond_in result (condition_in_lem (source_of source.now) (judged_of judged)) }
 {
     match judged {
         Judged::Typed(e) => {
             if is_scalar_value(&e) {
-                return Ok(Cond::Value(e));
+                let condition = boxed(alloc, Cond::Value(Box::into_inner(e)))?;
+                return Ok(condition);
             }
             Err(refused(place(source), TypeKind::Condition))
         }
@@ -120,8 +125,8 @@ pub fn condition_in(source: &tree::Expr, judged: Judged) -> Result<Cond<()>, Fau
 
 /// An expression where a place is needed: the operand of `&`, and the left side of `.`, `->` and `=`. The name of a function is
 /// none. Refused with `Value` where it is a condition.
-pub fn place_in(source: &tree::Expr, judged: Judged) -> Result<Option<Expr>, Fault>
-    ensures { Gives (option_map expr_of) result (place_in_lem (source_of source.now) (judged_of judged)) }
+pub fn place_in(source: &tree::Expr, judged: Judged) -> Result<Option<Box<Expr>>, Fault>
+    ensures { Gives (option_map expr_in) result (place_in_lem (source_of source.now) (judged_of judged)) }
 {
     match judged {
         Judged::Typed(e) => Ok(Some(e)),
@@ -131,13 +136,16 @@ pub fn place_in(source: &tree::Expr, judged: Judged) -> Result<Option<Expr>, Fau
 }
 
 /// An integer constant. Refused with `Long` where its type would have four bytes.
-pub fn number(literal: Literal, span: Span) -> Result<Judged, Fault>
+pub fn number(alloc: Global, literal: Literal, span: Span) -> Result<Judged, Fault>
     ensures { Gives judged_of result (judged_number literal span) }
 {
     let integer = literal_type(literal);
     match integer.size {
         Size::Four => Err(refused(span.from, TypeKind::Long)),
-        _ => Ok(Judged::Typed(Expr::Number(integer.as_type(), literal, span))),
+        _ => {
+            let node = boxed(alloc, Expr::Number(integer.as_type(), literal, span))?;
+            Ok(Judged::Typed(node))
+        }
     }
 }
 
@@ -153,13 +161,13 @@ pub fn in_parentheses(
     match judged {
         Judged::Typed(e) => {
             let ty = carried(&e).duplicate(alloc)?;
-            Ok(Judged::Typed(Expr::Parenthesis(ty, left, Box::new(alloc, e)?, right)))
+            let node = boxed(alloc, Expr::Parenthesis(ty, left, e, right))?;
+            Ok(Judged::Typed(node))
         }
-        Judged::Logical(condition) => Ok(Judged::Logical(Cond::Parenthesis(
-            left,
-            Box::new(alloc, condition)?,
-            right,
-        ))),
+        Judged::Logical(condition) => {
+            let node = boxed(alloc, Cond::Parenthesis(left, condition, right))?;
+            Ok(Judged::Logical(node))
+        }
         Judged::NoVariable => Ok(Judged::NoVariable),
     }
 }

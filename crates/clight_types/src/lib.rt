@@ -2,6 +2,7 @@
 #![tactic(auto)]
 
 pub mod assignable;
+pub mod boxes;
 pub mod declared;
 pub mod judged;
 pub mod members;

@@ -5,11 +5,12 @@ ghost use Rattle.c_types.specs.Types.{type_of, member_of as member_type_of};
 ghost use Rattle.clight_syntax.specs.Code.TypedViews.{expr_of};
 ghost use Rattle.clight_types.specs.Scopes.{member_of as member_of_lem};
 ghost use Rattle.clight_types.specs.Declarations.{named_type as named_type_lem};
-ghost use Rattle.clight_types.specs.Code.HeldJudged.{judged_of};
+ghost use Rattle.clight_types.specs.Code.HeldJudged.{judged_of, expr_in};
 ghost use Rattle.clight_types.specs.Outcomes.{Gives};
 ghost use Rattle.clight_types.specs.TypedExpressions.{selected_type, select_from};
 ghost use Rattle.clight_types.specs.Code.HeldStructs.{structs_of};
 
+use crate::boxes::boxed;
 use crate::judged::{Judged, refused};
 use crate::operands::{carried, target};
 use crate::structs::Structs;
@@ -55,9 +56,9 @@ pub fn select(
     operator: MemberOperator,
     at: Span,
     member: Name,
-    e: Option<Expr>,
+    e: Option<Box<Expr>>,
 ) -> Result<Judged, Fault>
-    ensures { Gives judged_of result (select_from (structs_of structs.now) operator at member (option_map expr_of e)) }
+    ensures { Gives judged_of result (select_from (structs_of structs.now) operator at member (option_map expr_in e)) }
 {
     let Some(e) = e else {
         return Err(refused(at.from, TypeKind::Member));
@@ -66,7 +67,8 @@ pub fn select(
         Some(found) => {
             let ty = found.ty.duplicate(alloc)?;
             let offset = found.offset;
-            Ok(Judged::Typed(Expr::Member(ty, Box::new(alloc, e)?, operator, at, member, offset)))
+            let node = boxed(alloc, Expr::Member(ty, e, operator, at, member, offset))?;
+            Ok(Judged::Typed(node))
         }
         None => Err(refused(at.from, TypeKind::Member)),
     }

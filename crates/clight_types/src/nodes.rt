@@ -4,16 +4,17 @@ ghost use Rattle.std.specs.Option.{option_map};
 ghost use Rattle.c_types.specs.Types.{type_of};
 ghost use Rattle.clight_syntax.specs.TypedTrees.{Prefix};
 ghost use Rattle.clight_source.specs.Code.Views.{expr_of as source_of};
-ghost use Rattle.clight_syntax.specs.Code.TypedViews.{expr_of, cond_of};
+ghost use Rattle.clight_syntax.specs.Code.TypedViews.{expr_of};
 ghost use Rattle.cerco_base.specs.declared.reasons.TypeKind.TheVariants.{Operand as OperandKind};
 ghost use Rattle.c_types.specs.Kinds.{is_array};
 ghost use Rattle.clight_types.specs.Operands.{operand};
 ghost use Rattle.clight_types.specs.Code.Held.{row_type};
-ghost use Rattle.clight_types.specs.Code.HeldJudged.{judged_of};
+ghost use Rattle.clight_types.specs.Code.HeldJudged.{judged_of, expr_in, cond_in};
 ghost use Rattle.clight_types.specs.Outcomes.{Gives};
 ghost use Rattle.clight_types.specs.TypedExpressions.{Typed, Logical, or_fault, of_values, of_conditions, binary_kind, is_logical_operator, promoted_type, dereferenced_type, address_of, cast_form, cast_judged, element_form, element_judged};
 ghost use Rattle.clight_types.specs.Code.HeldStructs.{structs_of};
 
+use crate::boxes::boxed;
 use crate::judged::{Judged, refused, value_in};
 use crate::operands::{
     carried, is_integer_value, is_place, is_pointer_and_steps, target, value_integer,
@@ -33,7 +34,7 @@ fn value_type(alloc: Global, e: &Expr) -> Result<Ty, NoMemory>
     match carried(e) {
         Ty::Array(element, _) => {
             let copy = element.duplicate(alloc)?;
-            Ok(Ty::Pointer(Box::new(alloc, copy)?))
+            Ok(Ty::Pointer(boxed(alloc, copy)?))
         }
         ty => ty.duplicate(alloc),
     }
@@ -77,17 +78,16 @@ pub fn binary(
     structs: &Structs,
     operator: BinaryOperator,
     at: Span,
-    left: Expr,
-    right: Expr,
+    left: Box<Expr>,
+    right: Box<Expr>,
 ) -> Result<Judged, Fault>
-    ensures { Gives judged_of result (of_values (structs_of structs.now) operator at (expr_of left) (expr_of right)) }
+    ensures { Gives judged_of result (of_values (structs_of structs.now) operator at (expr_in left) (expr_in right)) }
 {
     match binary_row(structs, operator, &left, &right) {
         Some(row) => {
             let ty = typed_row(alloc, row, &left, &right)?;
-            let left = Box::new(alloc, left)?;
-            let right = Box::new(alloc, right)?;
-            Ok(Judged::Typed(Expr::Binary(ty, left, operator, at, right)))
+            let node = boxed(alloc, Expr::Binary(ty, left, operator, at, right))?;
+            Ok(Judged::Typed(node))
         }
         None => Err(refused(at.from, refusal(operator))),
     }
@@ -98,53 +98,59 @@ pub fn logical(
     alloc: Global,
     operator: BinaryOperator,
     at: Span,
-    left: Cond<()>,
-    right: Cond<()>,
+    left: Box<Cond<()>>,
+    right: Box<Cond<()>>,
 ) -> Result<Judged, Fault>
-    ensures { Gives judged_of result (Ok (Logical (of_conditions operator at (cond_of left) (cond_of right)))) }
+    ensures { Gives judged_of result (Ok (Logical (of_conditions operator at (cond_in left) (cond_in right)))) }
 {
-    let left = Box::new(alloc, left)?;
-    let right = Box::new(alloc, right)?;
     match operator {
-        BinaryOperator::LogicalAnd => Ok(Judged::Logical(Cond::Both(left, at, (), (), right))),
-        _ => Ok(Judged::Logical(Cond::Either(left, at, (), (), right))),
+        BinaryOperator::LogicalAnd => {
+            let node = boxed(alloc, Cond::Both(left, at, (), (), right))?;
+            Ok(Judged::Logical(node))
+        }
+        _ => {
+            let node = boxed(alloc, Cond::Either(left, at, (), (), right))?;
+            Ok(Judged::Logical(node))
+        }
     }
 }
 
 /// `-e` and `~e`. Refused with `Operand` where e is no integer.
-pub fn promoted(alloc: Global, operator: PrefixOperator, at: Span, e: Expr) -> Result<Judged, Fault>
-    ensures { Gives judged_of result (or_fault (promoted_type (expr_of e)) (λ type. Typed (Prefix type operator at (expr_of e))) at.from OperandKind) }
+pub fn promoted(
+    alloc: Global,
+    operator: PrefixOperator,
+    at: Span,
+    e: Box<Expr>,
+) -> Result<Judged, Fault>
+    ensures { Gives judged_of result (or_fault (promoted_type (expr_in e)) (λ type. Typed (Prefix type operator at (expr_in e))) at.from OperandKind) }
 {
     match value_integer(&e) {
         Some(integer) => {
             let ty = integer.promoted().as_type();
-            Ok(Judged::Typed(Expr::Prefix(ty, operator, at, Box::new(alloc, e)?)))
+            let node = boxed(alloc, Expr::Prefix(ty, operator, at, e))?;
+            Ok(Judged::Typed(node))
         }
         None => Err(refused(at.from, TypeKind::Operand)),
     }
 }
 
 /// `*e`. Refused with `Operand` where e is no pointer.
-pub fn dereferenced(alloc: Global, at: Span, e: Expr) -> Result<Judged, Fault>
-    ensures { Gives judged_of result (or_fault (dereferenced_type (expr_of e)) (λ type. Typed (Prefix type PrefixOperator.Dereference at (expr_of e))) at.from OperandKind) }
+pub fn dereferenced(alloc: Global, at: Span, e: Box<Expr>) -> Result<Judged, Fault>
+    ensures { Gives judged_of result (or_fault (dereferenced_type (expr_in e)) (λ type. Typed (Prefix type PrefixOperator.Dereference at (expr_in e))) at.from OperandKind) }
 {
     match target(&e) {
         Some(pointee) => {
             let ty = pointee.duplicate(alloc)?;
-            Ok(Judged::Typed(Expr::Prefix(
-                ty,
-                PrefixOperator::Dereference,
-                at,
-                Box::new(alloc, e)?,
-            )))
+            let node = boxed(alloc, Expr::Prefix(ty, PrefixOperator::Dereference, at, e))?;
+            Ok(Judged::Typed(node))
         }
         None => Err(refused(at.from, TypeKind::Operand)),
     }
 }
 
 /// `&e`. Refused with `Operand` where e is no place, or an array.
-pub fn address(alloc: Global, at: Span, e: Option<Expr>) -> Result<Judged, Fault>
-    ensures { Gives judged_of result (address_of at (option_map expr_of e)) }
+pub fn address(alloc: Global, at: Span, e: Option<Box<Expr>>) -> Result<Judged, Fault>
+    ensures { Gives judged_of result (address_of at (option_map expr_in e)) }
 {
     match e {
         Some(e) => {
@@ -152,8 +158,9 @@ pub fn address(alloc: Global, at: Span, e: Option<Expr>) -> Result<Judged, Fault
                 return Err(refused(at.from, TypeKind::Operand));
             }
             let target = carried(&e).duplicate(alloc)?;
-            let ty = Ty::Pointer(Box::new(alloc, target)?);
-            Ok(Judged::Typed(Expr::Prefix(ty, PrefixOperator::AddressOf, at, Box::new(alloc, e)?)))
+            let ty = Ty::Pointer(boxed(alloc, target)?);
+            let node = boxed(alloc, Expr::Prefix(ty, PrefixOperator::AddressOf, at, e))?;
+            Ok(Judged::Typed(node))
         }
         None => Err(refused(at.from, TypeKind::Operand)),
     }
@@ -165,10 +172,10 @@ fn element_of(
     structs: &Structs,
     left: Span,
     right: Span,
-    base: Expr,
-    index: Expr,
+    base: Box<Expr>,
+    index: Box<Expr>,
 ) -> Result<Judged, Fault>
-    ensures { Gives judged_of result (element_form (structs_of structs.now) left right (expr_of base) (expr_of index)) }
+    ensures { Gives judged_of result (element_form (structs_of structs.now) left right (expr_in base) (expr_in index)) }
 {
     if !is_pointer_and_steps(structs, &base, &index) {
         return Err(refused(left.from, TypeKind::Operand));
@@ -176,9 +183,8 @@ fn element_of(
     match target(&base) {
         Some(pointee) => {
             let ty = pointee.duplicate(alloc)?;
-            let base = Box::new(alloc, base)?;
-            let index = Box::new(alloc, index)?;
-            Ok(Judged::Typed(Expr::Index(ty, base, left, index, right)))
+            let node = boxed(alloc, Expr::Index(ty, base, left, index, right))?;
+            Ok(Judged::Typed(node))
         }
         None => Err(refused(left.from, TypeKind::Operand)),
     }
@@ -191,14 +197,15 @@ fn cast_of(
     left: Span,
     words: Specifiers,
     right: Span,
-    e: Expr,
+    e: Box<Expr>,
 ) -> Result<Judged, Fault>
-    ensures { Gives judged_of result (cast_form left words right (type_of ty) (expr_of e)) }
+    ensures { Gives judged_of result (cast_form left words right (type_of ty) (expr_in e)) }
 {
     if !ty.is_integer() || !is_integer_value(&e) {
         return Err(refused(left.from, TypeKind::Operand));
     }
-    Ok(Judged::Typed(Expr::Cast(ty, left, words, right, Box::new(alloc, e)?)))
+    let node = boxed(alloc, Expr::Cast(ty, left, words, right, e))?;
+    Ok(Judged::Typed(node))
 }
 
 /// `base[index]`, where the index is judged. Refused with `Value` where the index has none, and with `Operand` where the base is no
@@ -208,11 +215,11 @@ pub fn element(
     structs: &Structs,
     left: Span,
     right: Span,
-    base: Expr,
+    base: Box<Expr>,
     source: &tree::Expr,
     index: Judged,
 ) -> Result<Judged, Fault>
-    ensures { Gives judged_of result (element_judged (structs_of structs.now) left right (source_of source.now) (expr_of base) (judged_of index)) }
+    ensures { Gives judged_of result (element_judged (structs_of structs.now) left right (source_of source.now) (expr_in base) (judged_of index)) }
 {
     let index = value_in(source, index)?;
     element_of(alloc, structs, left, right, base, index)

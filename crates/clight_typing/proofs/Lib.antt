@@ -19,3 +19,4 @@ pub mod LocalSteps
 pub mod FunctionParts
 pub mod Verdicts
 pub mod Parameters
+pub mod FirstValues

@@ -3,3 +3,4 @@ pub mod HeldFile
 pub mod HeldFunction
 pub mod HeldOwn
 pub mod HeldScopes
+pub mod HeldTrees

@@ -4,6 +4,7 @@ ghost use Rattle.clight_source.specs.Code.Views.{stmt_of as source_of, stmts_of 
 ghost use Rattle.clight_syntax.specs.Code.TypedViews.{stmt_of, stmts_of};
 ghost use Rattle.clight_typing.specs.Code.HeldBody.{body_for};
 ghost use Rattle.clight_types.specs.Outcomes.{Gives};
+ghost use Rattle.clight_typing.specs.Code.HeldTrees.{stmt_in};
 ghost use Rattle.clight_typing.specs.Statements.{in_loop as in_loop_lem};
 ghost use Rattle.clight_typing.specs.TypedStatements.{typed_stmt as typed_stmt_lem, typed_stmts as typed_stmts_lem};
 
@@ -11,6 +12,7 @@ use crate::statements::Body;
 use cerco_base::Fault;
 use clight_source::tree;
 use clight_syntax::typed::Stmt;
+use clight_types::boxes::boxed;
 
 impl Body<'_> {
     /// The same, in a loop.
@@ -54,45 +56,53 @@ impl Body<'_> {
             }
             tree::Stmt::If(test, arm) => {
                 let test = self.scope.typed_test(test)?;
-                let arm = self.typed_stmt(arm)?;
-                Ok(Stmt::If(test, (), Box::new(alloc, arm)?, ()))
+                let arm = self.typed_part(arm)?;
+                Ok(Stmt::If(Box::into_inner(test), (), arm, ()))
             }
             tree::Stmt::IfElse(test, arm, at, otherwise) => {
                 let test = self.scope.typed_test(test)?;
-                let arm = self.typed_stmt(arm)?;
-                let otherwise = self.typed_stmt(otherwise)?;
-                let arm = Box::new(alloc, arm)?;
-                Ok(Stmt::IfElse(test, (), arm, *at, (), Box::new(alloc, otherwise)?))
+                let arm = self.typed_part(arm)?;
+                let otherwise = self.typed_part(otherwise)?;
+                Ok(Stmt::IfElse(Box::into_inner(test), (), arm, *at, (), otherwise))
             }
             tree::Stmt::While(test, inner) => {
                 let test = self.scope.typed_test(test)?;
-                let inner = self.in_a_loop().typed_stmt(inner)?;
-                Ok(Stmt::While(test, (), Box::new(alloc, inner)?, ()))
+                let inner = self.in_a_loop().typed_part(inner)?;
+                Ok(Stmt::While(Box::into_inner(test), (), inner, ()))
             }
             tree::Stmt::Do(keyword, inner, test, semicolon) => {
-                let inner = self.in_a_loop().typed_stmt(inner)?;
+                let inner = self.in_a_loop().typed_part(inner)?;
                 let test = self.scope.typed_test(test)?;
-                Ok(Stmt::Do(*keyword, Box::new(alloc, inner)?, test, (), *semicolon, ()))
+                Ok(Stmt::Do(*keyword, inner, Box::into_inner(test), (), *semicolon, ()))
             }
             tree::Stmt::For(head, inner) => {
                 let head = self.scope.typed_for(head)?;
-                let inner = self.in_a_loop().typed_stmt(inner)?;
-                Ok(Stmt::For(head, (), Box::new(alloc, inner)?, ()))
+                let inner = self.in_a_loop().typed_part(inner)?;
+                Ok(Stmt::For(Box::into_inner(head), (), inner, ()))
             }
-            tree::Stmt::Break(keyword, semicolon) => self.jump(
-                *keyword,
-                Stmt::Break(*keyword, *semicolon),
-            ),
-            tree::Stmt::Continue(keyword, semicolon) => self.jump(
-                *keyword,
-                Stmt::Continue(*keyword, *semicolon),
-            ),
+            tree::Stmt::Break(keyword, semicolon) => {
+                let statement = boxed(alloc, Stmt::Break(*keyword, *semicolon))?;
+                self.jump(*keyword, statement)
+            }
+            tree::Stmt::Continue(keyword, semicolon) => {
+                let statement = boxed(alloc, Stmt::Continue(*keyword, *semicolon))?;
+                self.jump(*keyword, statement)
+            }
             tree::Stmt::Return(keyword, value, semicolon) => self.typed_return(
                 *keyword,
                 value.as_ref(),
                 *semicolon,
             ),
         }
+    }
+
+    /// A statement that is part of another one. Refused at its first node without a type.
+    #[cycle(typed_stmt)]
+    fn typed_part(&self, s: &tree::Stmt) -> Result<Box<Stmt<()>>, Fault>
+        ensures { Gives stmt_in result (typed_stmt_lem (body_for self.now) (source_of s.now)) }
+    {
+        let part = self.typed_stmt(s)?;
+        Ok(boxed(self.scope.alloc, part)?)
     }
 
     /// Statements in order. Refused at the first node without a type.

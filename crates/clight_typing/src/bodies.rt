@@ -4,6 +4,7 @@ ghost use Rattle.std.specs.Prelude.{◌≡◌};
 ghost use Rattle.std.specs.Option.{option_map};
 ghost use Rattle.clight_source.specs.Code.Views.{expr_of as source_of};
 ghost use Rattle.clight_syntax.specs.Code.TypedViews.{expr_of, stmt_of};
+ghost use Rattle.clight_types.specs.Code.HeldJudged.{expr_in};
 ghost use Rattle.clight_typing.specs.Code.HeldBody.{body_for};
 ghost use Rattle.clight_types.specs.Outcomes.{Gives};
 ghost use Rattle.clight_typing.specs.Statements.{reads_into as reads_into_lem, is_own as is_own_lem};
@@ -39,19 +40,19 @@ impl Body<'_> {
     /// A reading of the port into a typed target. Refused with `Port` where it can't take it.
     fn read_port(
         &self,
-        target: Option<Expr>,
+        target: Option<Box<Expr>>,
         equals: Span,
         port: Span,
         semicolon: Span,
     ) -> Result<Stmt<()>, Fault>
-        ensures { Gives stmt_of result (read_port_lem (body_for self.now) (option_map expr_of target) equals port semicolon) }
+        ensures { Gives stmt_of result (read_port_lem (body_for self.now) (option_map expr_in target) equals port semicolon) }
     {
         match target {
             Some(target) => {
                 if !self.reads_into(&target) {
                     return Err(refused(equals.from, TypeKind::Port));
                 }
-                Ok(Stmt::ReadPort(target, equals, port, semicolon))
+                Ok(Stmt::ReadPort(Box::into_inner(target), equals, port, semicolon))
             }
             None => Err(refused(equals.from, TypeKind::Port)),
         }
@@ -72,11 +73,11 @@ impl Body<'_> {
     }
 
     /// `break;` and `continue;` Refused with `Jump` outside a loop.
-    pub fn jump(&self, keyword: Span, statement: Stmt<()>) -> Result<Stmt<()>, Fault>
-        ensures { Gives stmt_of result (jump_lem (body_for self.now) keyword (stmt_of statement)) }
+    pub fn jump(&self, keyword: Span, statement: Box<Stmt<()>>) -> Result<Stmt<()>, Fault>
+        ensures { Gives stmt_of result (jump_lem (body_for self.now) keyword (stmt_of statement.value)) }
     {
         if self.in_loop {
-            return Ok(statement);
+            return Ok(Box::into_inner(statement));
         }
         Err(refused(keyword.from, TypeKind::Jump))
     }
@@ -101,7 +102,7 @@ impl Body<'_> {
                 if !is_assignable_to(&e, self.result) {
                     return Err(refused(keyword.from, TypeKind::Return));
                 }
-                Ok(Stmt::Return(keyword, Some(e), semicolon))
+                Ok(Stmt::Return(keyword, Some(Box::into_inner(e)), semicolon))
             }
         }
     }

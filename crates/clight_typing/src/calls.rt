@@ -14,6 +14,7 @@ use cerco_base::{Fault, TypeKind};
 use clight_source::tree::{self, CallTarget};
 use clight_syntax::typed::{Arguments, Call, EarlierArgument, ResultTarget};
 use clight_types::assignable::are_assignable;
+use clight_types::boxes::boxed;
 use clight_types::judged::refused;
 
 impl Scope {
@@ -25,7 +26,7 @@ impl Scope {
         for x in xs {
             let value = self.typed_value(&x.value)?;
             typed.push(EarlierArgument {
-                value,
+                value: Box::into_inner(value),
                 comma: x.comma,
             })?;
         }
@@ -41,7 +42,7 @@ impl Scope {
             tree::Arguments::Listed(earlier, last) => {
                 let others = self.typed_earlier(earlier)?;
                 let e = self.typed_value(last)?;
-                Ok(Arguments::Listed(others, e))
+                Ok(Arguments::Listed(others, Box::into_inner(e)))
             }
         }
     }
@@ -77,8 +78,8 @@ impl Body<'_> {
 
     /// A call whose arguments are typed. Refused with `Call` where its name is no function, or the function doesn't take the
     /// arguments, or the target can't take its result.
-    fn call_of(&self, x: &tree::Call, arguments: Arguments) -> Result<Call, Fault>
-        ensures { Gives call_of result (call_of_lem (body_for self.now) (call_source_of x.now) (arguments_of arguments) ((scope_of self.now.scope.now).meaning x.now.function.number)) }
+    fn call_of(&self, x: &tree::Call, arguments: Box<Arguments>) -> Result<Call, Fault>
+        ensures { Gives call_of result (call_of_lem (body_for self.now) (call_source_of x.now) (arguments_of arguments.value) ((scope_of self.now.scope.now).meaning x.now.function.number)) }
     {
         match self.scope.look_up(x.function.number) {
             Some(Meaning::Code(function, signature)) => {
@@ -91,7 +92,7 @@ impl Body<'_> {
                     function: *function,
                     name: x.function,
                     left: x.left,
-                    arguments,
+                    arguments: Box::into_inner(arguments),
                     right: x.right,
                 })
             }
@@ -104,6 +105,7 @@ impl Body<'_> {
         ensures { Gives call_of result (typed_call_lem (body_for self.now) (call_source_of x.now)) }
     {
         let arguments = self.scope.typed_arguments(&x.arguments)?;
+        let arguments = boxed(self.scope.alloc, arguments)?;
         self.call_of(x, arguments)
     }
 }

@@ -4,9 +4,8 @@ ghost use Rattle.std.specs.Prelude.{◌≡◌, Ok};
 ghost use Rattle.std.specs.Option.{option_map};
 ghost use Rattle.c_types.specs.Types.{type_of};
 ghost use Rattle.clight_source.specs.Code.Views.{expr_of as source_of};
-ghost use Rattle.clight_syntax.specs.Code.TypedViews.{expr_of, cond_of};
 ghost use Rattle.clight_types.specs.Declarations.{named_type as named_type_lem};
-ghost use Rattle.clight_types.specs.Code.HeldJudged.{judged_of};
+ghost use Rattle.clight_types.specs.Code.HeldJudged.{judged_of, expr_in, cond_in};
 ghost use Rattle.clight_typing.specs.Code.HeldScopes.{scope_of};
 ghost use Rattle.clight_types.specs.Outcomes.{Gives};
 ghost use Rattle.clight_types.specs.Scopes.{meaning_of};
@@ -17,6 +16,7 @@ use cerco_base::{Fault, TypeKind};
 use clight_source::tree::{self, Name, PrefixOperator, Specifiers};
 use clight_syntax::typed::Expr;
 use clight_syntax::{Cond, Ty};
+use clight_types::boxes::boxed;
 use clight_types::judged::{
     Judged, condition_in, in_parentheses, number, place_in, refused, value_in, words_start,
 };
@@ -33,7 +33,8 @@ impl Scope {
         match self.look_up(name.number) {
             Some(Meaning::Object(variable, ty)) => {
                 let copy = ty.duplicate(self.alloc)?;
-                Ok(Judged::Typed(Expr::Variable(copy, *variable, name)))
+                let node = boxed(self.alloc, Expr::Variable(copy, *variable, name))?;
+                Ok(Judged::Typed(node))
             }
             _ => Ok(Judged::NoVariable),
         }
@@ -57,7 +58,7 @@ impl Scope {
     {
         match e {
             tree::Expr::Name(name) => self.named(*name),
-            tree::Expr::Number(literal, span) => number(*literal, *span),
+            tree::Expr::Number(literal, span) => number(self.alloc, *literal, *span),
             tree::Expr::Parenthesis(left, part, right) => {
                 let inner = self.judged(part)?;
                 in_parentheses(self.alloc, *left, *right, inner)
@@ -65,9 +66,9 @@ impl Scope {
             tree::Expr::Binary(left, operator, at, right) => {
                 let first = self.judged(left)?;
                 if is_logical(*operator) {
-                    let one = condition_in(left, first)?;
+                    let one = condition_in(self.alloc, left, first)?;
                     let second = self.judged(right)?;
-                    let other = condition_in(right, second)?;
+                    let other = condition_in(self.alloc, right, second)?;
                     return logical(self.alloc, *operator, *at, one, other);
                 }
                 let one = value_in(left, first)?;
@@ -126,31 +127,32 @@ impl Scope {
                 address(self.alloc, at, place)
             }
             PrefixOperator::Not => {
-                let condition = condition_in(source, inner)?;
-                Ok(Judged::Logical(Cond::Not(at, Box::new(self.alloc, condition)?)))
+                let condition = condition_in(self.alloc, source, inner)?;
+                let node = boxed(self.alloc, Cond::Not(at, condition))?;
+                Ok(Judged::Logical(node))
             }
         }
     }
 
     /// An expression where a value is needed. Refused at its first node without a type.
-    pub fn typed_value(&self, e: &tree::Expr) -> Result<Expr, Fault>
-        ensures { Gives expr_of result (typed_value_lem (scope_of self.now) (source_of e.now)) }
+    pub fn typed_value(&self, e: &tree::Expr) -> Result<Box<Expr>, Fault>
+        ensures { Gives expr_in result (typed_value_lem (scope_of self.now) (source_of e.now)) }
     {
         let judged = self.judged(e)?;
         value_in(e, judged)
     }
 
     /// An expression where a condition is needed. Refused at its first node without a type.
-    pub fn typed_condition(&self, e: &tree::Expr) -> Result<Cond<()>, Fault>
-        ensures { Gives cond_of result (typed_condition_lem (scope_of self.now) (source_of e.now)) }
+    pub fn typed_condition(&self, e: &tree::Expr) -> Result<Box<Cond<()>>, Fault>
+        ensures { Gives cond_in result (typed_condition_lem (scope_of self.now) (source_of e.now)) }
     {
         let judged = self.judged(e)?;
-        condition_in(e, judged)
+        condition_in(self.alloc, e, judged)
     }
 
     /// An expression where a place is needed; None for the name of a function. Refused at its first node without a type.
-    pub fn typed_place(&self, e: &tree::Expr) -> Result<Option<Expr>, Fault>
-        ensures { Gives (option_map expr_of) result (typed_place_lem (scope_of self.now) (source_of e.now)) }
+    pub fn typed_place(&self, e: &tree::Expr) -> Result<Option<Box<Expr>>, Fault>
+        ensures { Gives (option_map expr_in) result (typed_place_lem (scope_of self.now) (source_of e.now)) }
     {
         let judged = self.judged(e)?;
         place_in(e, judged)

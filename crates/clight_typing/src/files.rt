@@ -1,25 +1,28 @@
 //! What is declared before a place of a file (ISO/IEC 9899:1999, 6.9).
 ghost use Rattle.std.specs.Prelude.{◌≡◌, ◌++◌, IfOk, OnOk, length, map, nat_eq};
-ghost use Rattle.c_types.specs.Types.{type_of};
+ghost use Rattle.c_types.specs.Types.{type_of, struct_type_of};
 ghost use Rattle.clight_syntax.specs.Code.TypedViews.{variable_of};
 ghost use Rattle.clight_source.specs.Code.Views.{struct_of, global_of, header_of};
 ghost use Rattle.clight_typing.specs.Functions.{function_number as function_number_lem, variables_from, has_block as has_block_lem, home_of, counted as counted_lem};
 ghost use Rattle.clight_typing.specs.Code.HeldFile.{a_variable, file_for};
 ghost use Rattle.clight_typing.specs.Code.HeldOwn.{own_of};
 ghost use Rattle.clight_types.specs.Outcomes.{Gives};
-ghost use Rattle.clight_typing.specs.Programs.{after_struct, after_global, after_prototype};
+ghost use Rattle.clight_typing.specs.Programs.{no_file, after_struct, after_global, after_prototype};
 ghost use Rattle.clight_typing.specs.TypedPrograms.{checked_struct, checked_global, checked_prototype as checked_prototype_lem};
 ghost use Rattle.indexmap.specs.IndexSet.{contains};
 
 use crate::headers::Own;
 use crate::locals::next_number;
 use crate::scope::{Meaning, Scope};
-use c_types::Ty;
+use c_types::{StructType, Ty};
 use cerco_base::{Fault, NoMemory};
 use clight_source::tree::{self, Header, StructDefinition};
 use clight_syntax::typed::{Home, Variable};
 use clight_types::places::Places;
+use clight_types::structs::Structs;
 use indexmap::IndexSet;
+use std::alloc::Global;
+use std::mem;
 
 /// What is declared before a place of a file.
 #[derive(Drop)]
@@ -35,7 +38,31 @@ pub struct File {
     pub functions: u32,
 }
 
-/// A number of things. More than 2 to the 32nd count as out of memory.
+impl File {
+    /// Nothing is declared in a program that defines these functions.
+    pub fn new(alloc: Global, definitions: Places) -> File
+        ensures { file_for result ≡ no_file definitions }
+    {
+        File {
+            scope: Scope::new(alloc),
+            definitions,
+            variables: Vec::new(alloc),
+            globals: 0,
+            functions: 0,
+        }
+    }
+
+    /// Takes the structs.
+    pub fn take_structs(&mut self) -> Vec<StructType>
+        ensures structs { map struct_type_of result.items ≡ (file_for self.old).structs }
+        ensures variables { self.new.variables ≡ self.old.variables }
+    {
+        let none = Structs::new(self.scope.alloc);
+        mem::replace(&mut self.scope.structs, none).into_types()
+    }
+}
+
+/// A number of things. More than 2 to the 32nd count as want of memory.
 pub fn number_of_all(count: usize) -> Result<u32, NoMemory>
     ensures { IfOk result (λ n. n ≡ count) }
 {
@@ -117,7 +144,7 @@ fn home(in_block: bool, blocks: u32, scalars: u32) -> Home
     Home::Scalar(scalars)
 }
 
-/// How many there are with one more, if it counts. 2 to the 32nd count as out of memory.
+/// How many there are with one more, if it counts. 2 to the 32nd count as want of memory.
 fn counted(counts: bool, number: u32) -> Result<u32, NoMemory>
     ensures { IfOk result (λ n. n ≡ counted_lem counts number) }
 {

@@ -59,7 +59,7 @@ pub struct Opening {
 }
 
 /// Refused with this kind where it doesn't hold.
-fn asked(holds: bool, at: u32, kind: TypeKind) -> Result<(), Fault>
+pub fn asked(holds: bool, at: u32, kind: TypeKind) -> Result<(), Fault>
     ensures { Gives (λ y. y) result (asked_lem holds at kind) }
 {
     if holds {

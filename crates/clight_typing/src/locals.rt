@@ -1,8 +1,10 @@
 //! The parameters and locals of a function (ISO/IEC 9899:1999, 6.7.8 and 6.9.1).
-ghost use Rattle.std.specs.Prelude.{◌≡◌, ◌++◌, ◌+◌, ◌∷◌, [], IfOk, OnOk, length, map, suc};
+ghost use Rattle.std.specs.Prelude.{◌≡◌, ◌++◌, ◌+◌, ◌∷◌, [], ◌&&◌, IfOk, OnOk, length, map, suc};
+ghost use Rattle.c_types.specs.Kinds.{is_scalar};
 ghost use Rattle.c_types.specs.Types.{type_of};
-ghost use Rattle.clight_syntax.specs.Code.TypedViews.{local_of, local_initialiser_of};
-ghost use Rattle.clight_source.specs.Code.Views.{local_of as local_source_of, local_initialiser_of as initialiser_source_of, parameters_of as parameters_source_of};
+ghost use Rattle.clight_syntax.specs.Code.TypedViews.{expr_of, local_of, local_initialiser_of};
+ghost use Rattle.clight_types.specs.Operands.{is_assignable, operand};
+ghost use Rattle.clight_source.specs.Code.Views.{declaration_of, local_of as local_source_of, local_initialiser_of as initialiser_source_of, parameters_of as parameters_source_of};
 ghost use Rattle.clight_types.specs.Declarations.{parameters_of};
 ghost use Rattle.clight_typing.specs.Functions.{object, with_parameters, parameter_own};
 ghost use Rattle.clight_typing.specs.Code.HeldFile.{an_own, source_own, with_owns};
@@ -12,15 +14,17 @@ ghost use Rattle.clight_types.specs.Outcomes.{Gives};
 ghost use Rattle.clight_types.specs.Scopes.{visible};
 ghost use Rattle.clight_typing.specs.TypedPrograms.{typed_first_value as typed_first_value_lem, typed_local as typed_local_lem, typed_locals as typed_locals_lem, scope_at, behind_locals, first_value_taken, locals_taken};
 
+use crate::functions::asked;
 use crate::headers::Own;
 use crate::scope::{Meaning, Scope};
 use c_types::Ty;
 use cerco_base::{Fault, NoMemory, TypeKind};
-use clight_source::tree::{self, Name, Parameters};
-use clight_syntax::typed::{Local, LocalInitialiser};
+use clight_source::tree::{self, Declaration, Declared, Name, Parameters};
+use clight_syntax::typed::{Expr, Local, LocalInitialiser};
 use clight_types::assignable::is_assignable_to;
-use clight_types::judged::refused;
+use clight_types::boxes::boxed;
 use std::alloc::Global;
+use std::mem;
 
 /// The parameters and locals of a function that are declared so far.
 #[derive(Drop)]
@@ -33,13 +37,34 @@ pub struct Variables {
     pub taken: Vec<u32>,
 }
 
-/// The next number. 2 to the 32nd counts as out of memory.
+/// The next number. 2 to the 32nd counts as want of memory.
 pub fn next_number(number: u32) -> Result<u32, NoMemory>
     ensures { IfOk result (λ n. n ≡ suc number) }
 {
     match number.checked_add(1) {
         Some(next) => Ok(next),
         None => Err(NoMemory),
+    }
+}
+
+// Whether a local of this type takes a first value.
+fn takes_first_value(ty: &Ty, value: &Expr) -> bool
+    ensures { result ≡ (is_scalar (type_of ty.now) && is_assignable (operand (expr_of value.now)) (type_of ty.now)) }
+{
+    ty.is_scalar() && is_assignable_to(value, ty)
+}
+
+// Takes a declaration, and leaves none of its stars and lengths.
+fn take_declaration(alloc: Global, x: &mut Declaration) -> Declaration
+    ensures { declaration_of result ≡ declaration_of x.old }
+{
+    Declaration {
+        declared: Declared {
+            specifiers: x.declared.specifiers,
+            stars: mem::replace(&mut x.declared.stars, Vec::new(alloc)),
+            name: x.declared.name,
+        },
+        lengths: mem::replace(&mut x.lengths, Vec::new(alloc)),
     }
 }
 
@@ -95,10 +120,8 @@ impl Scope {
             tree::LocalInitialiser::Nothing => Ok(LocalInitialiser::Nothing),
             tree::LocalInitialiser::Value(equals, value) => {
                 let e = self.typed_value(value)?;
-                if !ty.is_scalar() || !is_assignable_to(&e, ty) {
-                    return Err(refused(equals.from, TypeKind::Init));
-                }
-                Ok(LocalInitialiser::Value(*equals, e))
+                asked(takes_first_value(ty, &e), equals.from, TypeKind::Init)?;
+                Ok(LocalInitialiser::Value(*equals, Box::into_inner(e)))
             }
         }
     }
@@ -127,13 +150,14 @@ impl Scope {
         ensures owns { OnOk result (map own_of variables.new.owns.items ≡ map own_of variables.old.owns.items ++ source_own (scope_of self.old).structs (local_source_of x) ∷ []) }
         ensures taken { OnOk result (variables.new.taken.items ≡ variables.old.taken.items ++ first_value_taken (scope_at (scope_of self.old).structs variables.old.next (scope_of self.old).meaning (local_source_of x)) (initialiser_source_of x.initialiser)) }
     {
+        let mut x = boxed(self.alloc, x)?;
         let ty = self.checked_declaration(&x.declaration)?;
         let copy = ty.duplicate(self.alloc)?;
         self.declare_own(variables, x.declaration.declared.name, copy)?;
-        let initialiser = self.typed_first_value(&ty, &x.initialiser)?;
         self.add_first_value(&x.initialiser, &mut variables.taken)?;
+        let initialiser = self.typed_first_value(&ty, &x.initialiser)?;
         Ok(Local {
-            declaration: x.declaration,
+            declaration: take_declaration(self.alloc, &mut x.declaration),
             initialiser,
             semicolon: x.semicolon,
         })

@@ -3,7 +3,9 @@ ghost use Rattle.std.specs.Prelude.{◌≡◌};
 ghost use Rattle.std.specs.Option.{option_map};
 ghost use Rattle.c_types.specs.Types.{type_of};
 ghost use Rattle.clight_source.specs.Code.Views.{expr_of as source_of, assignment_of as assignment_source_of, for_head_of as for_source_of};
-ghost use Rattle.clight_syntax.specs.Code.TypedViews.{assignment_of, cond_of, for_head_of};
+ghost use Rattle.clight_syntax.specs.Code.TypedViews.{assignment_of, cond_of};
+ghost use Rattle.clight_types.specs.Code.Boxes.{in_optional_box};
+ghost use Rattle.clight_typing.specs.Code.HeldTrees.{for_head_in};
 ghost use Rattle.clight_typing.specs.Code.HeldBody.{body_for};
 ghost use Rattle.clight_typing.specs.Code.HeldScopes.{scope_of, signature_for};
 ghost use Rattle.clight_types.specs.Outcomes.{Gives};
@@ -18,25 +20,29 @@ use clight_source::tree::{self, CallTarget};
 use clight_syntax::typed::{Assignment, ForHead, ResultTarget};
 use clight_syntax::{Cond, Ty};
 use clight_types::assignable::is_result_assignable;
+use clight_types::boxes::{boxed, unboxed};
 use clight_types::judged::refused;
 
 impl Scope {
     /// An assignment, if there is one. Refused at its first node without a type.
-    fn optional_assignment(&self, x: &Option<tree::Assignment>) -> Result<Option<Assignment>, Fault>
-        ensures { Gives (option_map assignment_of) result (optional (typed_assignment_lem (scope_of self.now)) (option_map assignment_source_of x.now)) }
+    fn optional_assignment(
+        &self,
+        x: &Option<tree::Assignment>,
+    ) -> Result<Option<Box<Assignment>>, Fault>
+        ensures { Gives (λ r. option_map assignment_of (in_optional_box r)) result (optional (typed_assignment_lem (scope_of self.now)) (option_map assignment_source_of x.now)) }
     {
         match x {
             Some(assignment) => {
                 let typed = self.typed_assignment(assignment)?;
-                Ok(Some(typed))
+                Ok(Some(boxed(self.alloc, typed)?))
             }
             None => Ok(None),
         }
     }
 
     /// A condition, if there is one. Refused at its first node without a type.
-    fn optional_condition(&self, x: &Option<tree::Expr>) -> Result<Option<Cond<()>>, Fault>
-        ensures { Gives (option_map cond_of) result (optional (typed_condition_lem (scope_of self.now)) (option_map source_of x.now)) }
+    fn optional_condition(&self, x: &Option<tree::Expr>) -> Result<Option<Box<Cond<()>>>, Fault>
+        ensures { Gives (λ r. option_map cond_of (in_optional_box r)) result (optional (typed_condition_lem (scope_of self.now)) (option_map source_of x.now)) }
     {
         match x {
             Some(condition) => {
@@ -48,22 +54,23 @@ impl Scope {
     }
 
     /// `for (first; condition; step)`. Refused at its first node without a type.
-    pub fn typed_for(&self, x: &tree::ForHead) -> Result<ForHead<()>, Fault>
-        ensures { Gives for_head_of result (typed_for_lem (scope_of self.now) (for_source_of x.now)) }
+    pub fn typed_for(&self, x: &tree::ForHead) -> Result<Box<ForHead<()>>, Fault>
+        ensures { Gives for_head_in result (typed_for_lem (scope_of self.now) (for_source_of x.now)) }
     {
         let first = self.optional_assignment(&x.first)?;
         let condition = self.optional_condition(&x.condition)?;
         let step = self.optional_assignment(&x.step)?;
-        Ok(ForHead {
+        let head = ForHead {
             keyword: x.keyword,
             left: x.left,
-            first,
+            first: unboxed(first),
             first_semicolon: x.first_semicolon,
-            condition,
+            condition: unboxed(condition),
             second_semicolon: x.second_semicolon,
-            step,
+            step: unboxed(step),
             right: x.right,
-        })
+        };
+        Ok(boxed(self.alloc, head)?)
     }
 }
 

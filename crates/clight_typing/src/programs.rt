@@ -12,14 +12,15 @@ ghost use Rattle.clight_typing.specs.Programs.{definitions as definitions_lem};
 ghost use Rattle.clight_typing.specs.TypedPrograms.{typed_items as typed_items_lem, typed_program as typed_program_lem};
 
 use crate::files::{File, function_number};
-use crate::scope::Scope;
 use cerco_base::{CallOrder, Fault, NoMemory};
 use clight_names::main_name;
 use clight_source::tree;
 use clight_syntax::typed::{Function, Item};
 use clight_syntax::{Program, Typed};
+use clight_types::boxes::boxed;
 use clight_types::places::Places;
 use std::alloc::Global;
+use std::mem;
 
 /// Typed items and the functions that they define.
 #[derive(Drop)]
@@ -101,38 +102,17 @@ fn typed_tree(alloc: Global, program: Program) -> Result<Typed, Fault>
     ensures { Gives program_of result (typed_program_lem (program_source_of program)) }
 {
     let Program { names, items, span } = program;
-    let definitions = definitions(alloc, &items)?;
-    let mut file = File {
-        scope: Scope::new(alloc),
-        definitions,
-        variables: Vec::new(alloc),
-        globals: 0,
-        functions: 0,
-    };
-    let typed = file.typed_items(alloc, items)?;
     let name = main_name(&names)?;
+    let definitions = definitions(alloc, &items)?;
+    let mut file = boxed(alloc, File::new(alloc, definitions))?;
+    let Items { items, functions } = file.typed_items(alloc, items)?;
     let main = function_number(&file.definitions, name)?;
-    let Items { items, functions } = typed;
-    let File {
-        scope,
-        definitions: _,
-        variables,
-        globals: _,
-        functions: _,
-    } = file;
-    let Scope {
-        alloc: _,
-        structs,
-        file: _,
-        locals: _,
-    } = scope;
-    let structs = structs.into_types();
     Ok(Typed {
         names,
         items,
         span,
-        structs,
-        variables,
+        structs: file.take_structs(),
+        variables: mem::replace(&mut file.variables, Vec::new(alloc)),
         functions,
         main,
         frames: Vec::new(alloc),

@@ -2,7 +2,9 @@
 ghost use Rattle.std.specs.Prelude.{◌≡◌, map};
 ghost use Rattle.std.specs.Option.{option_map};
 ghost use Rattle.clight_source.specs.Code.Views.{expr_of as source_of, assignment_of as assignment_source_of, test_of as test_source_of};
-ghost use Rattle.clight_syntax.specs.Code.TypedViews.{expr_of, assignment_of, test_of, stmt_of};
+ghost use Rattle.clight_syntax.specs.Code.TypedViews.{assignment_of, stmt_of};
+ghost use Rattle.clight_types.specs.Code.HeldJudged.{expr_in};
+ghost use Rattle.clight_typing.specs.Code.HeldTrees.{test_in};
 ghost use Rattle.clight_typing.specs.Code.HeldScopes.{scope_of};
 ghost use Rattle.clight_typing.specs.Code.HeldBody.{body_for};
 ghost use Rattle.clight_types.specs.Outcomes.{Gives};
@@ -14,6 +16,7 @@ use clight_source::tree;
 use clight_syntax::typed::{Assignment, Expr, Stmt, Test};
 use clight_syntax::{Span, Ty};
 use clight_types::assignable::takes;
+use clight_types::boxes::boxed;
 use clight_types::judged::refused;
 use clight_types::operands::is_integer_value;
 use indexmap::IndexSet;
@@ -33,8 +36,8 @@ pub struct Body<'a> {
 }
 
 /// An assignment whose parts are typed. Refused with `Assign` where the target doesn't take the value.
-fn assigned(target: Option<Expr>, equals: Span, value: Expr) -> Result<Assignment, Fault>
-    ensures { Gives assignment_of result (assigned_lem equals (option_map expr_of target) (expr_of value)) }
+fn assigned(target: Option<Box<Expr>>, equals: Span, value: Box<Expr>) -> Result<Assignment, Fault>
+    ensures { Gives assignment_of result (assigned_lem equals (option_map expr_in target) (expr_in value)) }
 {
     match target {
         Some(target) => {
@@ -42,9 +45,9 @@ fn assigned(target: Option<Expr>, equals: Span, value: Expr) -> Result<Assignmen
                 return Err(refused(equals.from, TypeKind::Assign));
             }
             Ok(Assignment {
-                target,
+                target: Box::into_inner(target),
                 equals,
-                value,
+                value: Box::into_inner(value),
             })
         }
         None => Err(refused(equals.from, TypeKind::Assign)),
@@ -62,16 +65,17 @@ impl Scope {
     }
 
     /// A keyword and its condition. Refused at its first node without a type.
-    pub fn typed_test(&self, x: &tree::Test) -> Result<Test<()>, Fault>
-        ensures { Gives test_of result (typed_test_lem (scope_of self.now) (test_source_of x.now)) }
+    pub fn typed_test(&self, x: &tree::Test) -> Result<Box<Test<()>>, Fault>
+        ensures { Gives test_in result (typed_test_lem (scope_of self.now) (test_source_of x.now)) }
     {
         let condition = self.typed_condition(&x.condition)?;
-        Ok(Test {
+        let test = Test {
             keyword: x.keyword,
             left: x.left,
-            condition,
+            condition: Box::into_inner(condition),
             right: x.right,
-        })
+        };
+        Ok(boxed(self.alloc, test)?)
     }
 
     /// `P1 = value;` Refused at its first node without a type, with `Port` where the value is no integer.
@@ -88,6 +92,6 @@ impl Scope {
         if !is_integer_value(&e) {
             return Err(refused(equals.from, TypeKind::Port));
         }
-        Ok(Stmt::WritePort(port, equals, e, semicolon))
+        Ok(Stmt::WritePort(port, equals, Box::into_inner(e), semicolon))
     }
 }
