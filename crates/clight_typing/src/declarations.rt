@@ -54,7 +54,7 @@ impl Scope {
         Ok(size)
     }
 
-    /// The members, one after the other without gaps. An offset above 2 to the 32nd counts as want of memory.
+    /// The members, one after the other without gaps. An offset above 2 to the 32nd counts as out of memory.
     fn members(&self, xs: &[Member]) -> Result<Vec<MemberType>, NoMemory>
         ensures { IfOk result (λ r. map member_type_of r.items ≡ members_from_lem (scope_of self.now).structs 0 (map member_of xs.now)) }
     {

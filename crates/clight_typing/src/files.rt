@@ -62,7 +62,7 @@ impl File {
     }
 }
 
-/// A number of things. More than 2 to the 32nd count as want of memory.
+/// A number of things. More than 2 to the 32nd count as out of memory.
 pub fn number_of_all(count: usize) -> Result<u32, NoMemory>
     ensures { IfOk result (λ n. n ≡ count) }
 {
@@ -144,7 +144,7 @@ fn home(in_block: bool, blocks: u32, scalars: u32) -> Home
     Home::Scalar(scalars)
 }
 
-/// How many there are with one more, if it counts. 2 to the 32nd count as want of memory.
+/// How many there are with one more, if it counts. 2 to the 32nd count as out of memory.
 fn counted(counts: bool, number: u32) -> Result<u32, NoMemory>
     ensures { IfOk result (λ n. n ≡ counted_lem counts number) }
 {

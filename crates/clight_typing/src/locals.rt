@@ -37,7 +37,7 @@ pub struct Variables {
     pub taken: Vec<u32>,
 }
 
-/// The next number. 2 to the 32nd counts as want of memory.
+/// The next number. 2 to the 32nd counts as out of memory.
 pub fn next_number(number: u32) -> Result<u32, NoMemory>
     ensures { IfOk result (λ n. n ≡ suc number) }
 {

@@ -67,7 +67,7 @@ impl Scope {
         }
     }
 
-    /// Adds a struct. After want of memory the scope is of no use.
+    /// Adds a struct. When out of memory, the scope is of no use.
     pub fn add_struct(&mut self, ty: StructType) -> Result<(), NoMemory>
         ensures names { OnOk result (file_names self.new ≡ file_names self.old) }
         ensures structs { OnOk result (structs_of self.new.structs ≡ structs_of self.old.structs ++ struct_type_of ty ∷ []) }
@@ -77,7 +77,7 @@ impl Scope {
         Ok(())
     }
 
-    /// Declares a name in the file. After want of memory the scope is of no use.
+    /// Declares a name in the file. When out of memory, the scope is of no use.
     pub fn declare(&mut self, name: u32, meaning: Meaning) -> Result<(), NoMemory>
         ensures names { OnOk result (file_names self.new ≡ declare_lem (named name meaning) (file_names self.old)) }
         ensures structs { OnOk result (self.new.structs ≡ self.old.structs) }
@@ -86,7 +86,7 @@ impl Scope {
         Ok(())
     }
 
-    /// Declares a parameter or local of the function. After want of memory the scope is of no use.
+    /// Declares a parameter or local of the function. When out of memory, the scope is of no use.
     pub fn declare_local(&mut self, name: u32, meaning: Meaning) -> Result<(), NoMemory>
         ensures scope { OnOk result (scope_of self.new ≡ declared_in (named name meaning) (scope_of self.old)) }
         ensures names { OnOk result (file_names self.new ≡ file_names self.old) }
