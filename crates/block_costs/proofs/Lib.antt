@@ -2,4 +2,5 @@ pub mod Marking
 pub mod Tallies
 pub mod Sound
 pub mod Sums
+pub mod Alike
 mod Examples

@@ -23,6 +23,12 @@ pub(crate) enum Turn {
     Goes(u16, Tally),
 }
 
+// At the beginning of a way.
+const NOTHING: Tally = Tally {
+    cycles: 0,
+    branch: None,
+};
+
 // On to an address, if the way doesn't end before it.
 fn turn_to(code: &[u8], marks: &Marks, to: u16, tally: Tally) -> Turn
     ensures { result ≡ turn_to code.now marks.now to tally }
@@ -59,15 +65,8 @@ fn turn_at(
                 return Err(CostFault::Second { at });
             }
             let to = if taken { target } else { next };
-            Ok(turn_to(
-                code,
-                marks,
-                to,
-                Tally {
-                    cycles,
-                    branch: Some(at),
-                },
-            ))
+            let branch = Some(at);
+            Ok(turn_to(code, marks, to, Tally { cycles, branch }))
         }
     }
 }
@@ -77,10 +76,7 @@ fn walk(code: &[u8], marks: &Marks, taken: bool, from: u16) -> Result<Tally, Cos
     ensures { result ≡ walk code.now marks.now taken 65536 from (record { cycles = 0; branch = None }) }
 {
     let mut at = from;
-    let mut tally = Tally {
-        cycles: 0,
-        branch: None,
-    };
+    let mut tally = NOTHING;
     for _ in 0..65536u32 {
         match turn_at(code, marks, taken, at, tally)? {
             Turn::Ends(whole) => return Ok(whole),
@@ -103,10 +99,7 @@ pub(crate) fn walk_way(
     ensures { result ≡ walk_way code.now marks.now taken from }
 {
     if has_halt(code, from) {
-        return Ok(Tally {
-            cycles: 0,
-            branch: None,
-        });
+        return Ok(NOTHING);
     }
     walk(code, marks, taken, from)
 }

@@ -1,11 +1,12 @@
-//! Graphs of byte operations under other names for their locations.
+//! Graphs of byte operations under other names for their locations, and a copy of what a program
+//! keeps beside them.
 #![tactic(auto)]
 
 ghost use Rattle.std.specs.Prelude.{◌≡◌, map, IfOk};
 ghost use Rattle.rtl.specs.Graphs.{renamed_operand, renamed_op, renamed_exit, renamed_node, renamed_graph};
 ghost use Rattle.rtl.specs.Code.Views.{op_of, node_of, graph_of};
 
-use cerco_base::NoMemory;
+use cerco_base::{NoMemory, StartBytes};
 use rtl::{ByteOp, Exit, Graph, Graphs, Location, Node, Nodes, Ops, Sequence, Src};
 use smallvec::SmallVec;
 use std::alloc::Global;
@@ -180,4 +181,15 @@ pub fn rename_graphs<L: Location, M: Location + Default, N: Naming<L, M>>(
         renamed.push(rename_graph(alloc, names, graph)?)?;
     }
     Ok(renamed)
+}
+
+/// A copy of the bytes that the start writes.
+pub fn copy_start(alloc: Global, start: &StartBytes) -> Result<StartBytes, NoMemory>
+    ensures { IfOk result (λ copy. copy ≡ start.now) }
+{
+    let mut copy = StartBytes::new(alloc);
+    for &(at, byte) in start.bytes() {
+        copy.push(at, byte)?;
+    }
+    Ok(copy)
 }

@@ -1,16 +1,17 @@
 -- Expressions whose types fit their operands (ISO/IEC 9899:1999, 6.5, in the compiler's profile), as far as a compiler needs it: a place
 -- is asked no more than its parts.
-use Rattle.std.specs.Prelude.{◌≡◌, ℕ, ◌*◌, ◌^◌, ◌<◌, ◌≤◌, ◌⊎◌, List, [], ◌∷◌, Option, Some, None, Bool, true, false}
+use Rattle.std.specs.Prelude.{◌≡◌, ℕ, ◌^◌, ◌<◌, ◌⊎◌, List, Option, Some, None, slice_get, true, false}
 use Rattle.clight_source.specs.declared.tree.BinaryOperator.{BinaryOperator}
 use Rattle.clight_source.specs.declared.tree.BinaryOperator.TheVariants as o
 use Rattle.clight_source.specs.declared.tree.PrefixOperator.TheVariants.{Negate, Complement, Not as NotPrefix, Dereference, AddressOf}
 use Rattle.clight_source.specs.declared.tree.MemberOperator.TheVariants.{Dot, Arrow}
-use Rattle.c_types.specs.declared.integers.Size.TheVariants.{One, Two}
-use Rattle.c_types.specs.declared.integers.IntegerType.{IntegerType}
+use Rattle.c_types.specs.declared.integers.Size.TheVariants.{Two}
 use Rattle.c_types.specs.Types.{CType, Integer, Pointer, StructType, size_of}
 use Rattle.c_types.specs.Kinds.{value_type}
 use Rattle.c_types.specs.Conversions.{int, unsigned_char, promoted, common}
-use Rattle.clight_syntax.specs.TypedTrees.{Expr, Variable, Number, Parenthesis, Binary, Prefix, Cast, Index, Select, type_at, Cond, Truth, InParentheses, Not, Both, Either, Function, TypedProgram}
+use Rattle.clight_syntax.specs.declared.typed.Home.{Home}
+use Rattle.clight_syntax.specs.declared.typed.Home.TheVariants as h
+use Rattle.clight_syntax.specs.TypedTrees.{Expr, Variable, Number, Parenthesis, Binary, Prefix, Cast, Index, Select, type_at, Cond, Truth, InParentheses, Not, Both, Either, Function, Variable', TypedProgram}
 use Rattle.clight_programs.specs.Numbers.{as_number}
 use Rattle.clight_programs.specs.Scopes.{IsShortInteger, IsVariable}
 
@@ -66,6 +67,27 @@ IntegersFit T comparison L R r = T ≡ int
 abbrev pub OperandsFit : List StructType → CType → BinaryOperator → CType → CType → Option ℕ → Option ℕ → Type 0
 OperandsFit structs T operator L R l r = (IsShortInteger L × IsShortInteger R × IntegersFit T operator L R r) ⊎ PointersFit structs T operator L R l r
 
+-- ---- places
+
+-- a scalar that lives in no block isn't in external RAM
+abbrev pub LivesInRam : Home → Type 0
+LivesInRam (h.Global b) = Unit {0}
+LivesInRam (h.Block b) = Unit {0}
+LivesInRam (h.Scalar n) = ⊥
+
+abbrev pub IsInRam : Option Variable' → Type 0
+IsInRam None = ⊥
+IsInRam (Some x) = LivesInRam x.home
+
+-- 6.5.3.2: an operand of `&` is a variable in external RAM, a member, an element, or what a pointer points to
+abbrev pub HasAddress : {L : Type 0} → TypedProgram L → Expr → Type 0
+HasAddress p (Variable T n name) = IsInRam (slice_get p.variables n)
+HasAddress p (Parenthesis T left e right) = HasAddress p e
+HasAddress p (Prefix T Dereference at e) = Unit {0}
+HasAddress p (Index T base left index right) = Unit {0}
+HasAddress p (Select T e operator at name offset) = Unit {0}
+HasAddress p e = ⊥
+
 -- ---- expressions
 
 abbrev pub IsTyped : {L : Type 0} → TypedProgram L → Function L → Expr → Type 0
@@ -76,7 +98,7 @@ IsTyped p f (Binary T l operator at r) = IsTyped p f l × IsTyped p f r × Opera
 IsTyped p f (Prefix T Negate at e) = IsTyped p f e × IsShortInteger (type_at e) × (T ≡ promoted (type_at e))
 IsTyped p f (Prefix T Complement at e) = IsTyped p f e × IsShortInteger (type_at e) × (T ≡ promoted (type_at e))
 IsTyped p f (Prefix T Dereference at e) = IsTyped p f e × (value_type (type_at e) ≡ Pointer T)
-IsTyped p f (Prefix T AddressOf at e) = IsTyped p f e × (T ≡ Pointer (type_at e))
+IsTyped p f (Prefix T AddressOf at e) = IsTyped p f e × HasAddress p e × (T ≡ Pointer (type_at e))
 IsTyped p f (Prefix T NotPrefix at e) = ⊥
 IsTyped p f (Cast T left words right e) = IsTyped p f e × IsShortInteger T × IsShortInteger (type_at e)
 IsTyped p f (Index T base left index right) =

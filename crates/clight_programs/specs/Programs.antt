@@ -1,6 +1,6 @@
 -- What a checked program is to a compiler: its functions are typed, its variables have their places in external RAM, and its call paths
 -- are short.
-use Rattle.std.specs.Prelude.{◌≡◌, ℕ, suc, ◌+◌, ◌<◌, ◌≤◌, List, [], ◌∷◌, length, Option, Some, None, slice_get}
+use Rattle.std.specs.Prelude.{◌≡◌, ℕ, suc, ◌+◌, ◌<◌, ◌≤◌, List, [], ◌∷◌, Some, slice_get}
 use Rattle.c_types.specs.Types.{CType, Void, Integer, Array}
 use Rattle.clight_source.specs.Trees.{Initialiser, NoInitialiser, Single, Listed}
 use Rattle.clight_syntax.specs.TypedTrees.{Item, StructItem, GlobalItem, PrototypeItem, FunctionItem, LocalInitialiser, NoValue, Value, Local, Function, Variable', TypedProgram, own_variables, address_at}
@@ -8,6 +8,7 @@ use Rattle.clight_meaning.specs.Meaning.{variable_type}
 use Rattle.clight_programs.specs.Scopes.{IsShort, IsShortScalar, IsAtHome, IsVariable, bytes_of, AreBetween, function_scalars, HasShortScalars}
 use Rattle.clight_programs.specs.Expressions.{IsTyped}
 use Rattle.clight_programs.specs.Statements.{Paths, StmtsFit}
+use Rattle.clight_programs.specs.Formed.{ProgramIsFormed}
 
 -- the initialiser of the local with this number
 abbrev pub InitialiserFits : {L : Type 0} → TypedProgram L → Function L → ℕ → LocalInitialiser → Type 0
@@ -77,3 +78,4 @@ pub record IsChecked {L : Type 0} (p : TypedProgram L) : Type 0 where
   pub globals : GlobalsAreBetween p 1 p.items (paths.begin p.main)
   pub few_bytes : suc p.data_bytes < 65536
   pub first_values : GlobalsFit p p.items
+  pub formed : ProgramIsFormed p

@@ -1,6 +1,6 @@
 -- What the numbers of variables stand for in a function: their types, their scalars, and the addresses of their blocks (ISO/IEC
 -- 9899:1999, 6.2.1 and 6.2.4; the layout in external RAM is the compiler's own).
-use Rattle.std.specs.Prelude.{◌≡◌, ℕ, ◌+◌, ◌<◌, ◌≤◌, List, [], ◌∷◌, length, Option, Some, None, slice_get, Bool, if◌then◌else◌}
+use Rattle.std.specs.Prelude.{◌≡◌, ℕ, ◌+◌, ◌≤◌, List, [], ◌∷◌, length, Some, slice_get, Bool, if◌then◌else◌}
 use Rattle.c_types.specs.declared.integers.Size.{Size}
 use Rattle.c_types.specs.declared.integers.Size.TheVariants.{One, Two, Four}
 use Rattle.c_types.specs.Types.{CType, Void, Integer, Pointer, Array, Struct, StructType}

@@ -1,11 +1,11 @@
 -- Statements whose expressions are typed and whose calls fit (ISO/IEC 9899:1999, 6.5.2.2, 6.5.16 and 6.8), and what the layout and the call
 -- paths keep at each call.
-use Rattle.std.specs.Prelude.{◌≡◌, ℕ, ◌+◌, ◌<◌, ◌≤◌, List, [], ◌∷◌, length, Option, Some, None, slice_get}
-use Rattle.c_types.specs.Types.{CType, Void}
+use Rattle.std.specs.Prelude.{◌≡◌, ℕ, ◌<◌, ◌≤◌, List, [], ◌∷◌, length, Option, Some, None, slice_get}
+use Rattle.c_types.specs.Types.{CType}
 use Rattle.clight_syntax.specs.declared.typed.Home.{Home}
 use Rattle.clight_syntax.specs.declared.typed.Home.TheVariants as h
 use Rattle.clight_syntax.specs.declared.typed.ResultTarget.{ResultTarget}
-use Rattle.clight_syntax.specs.TypedTrees.{Expr, Variable, Parenthesis, type_at, Cond, Assignment, EarlierArgument, Arguments, NoArguments, Arguments', Call, Stmt, Empty, Block, Assign, ReadPort, WritePort, CallOf, If, IfElse, While, Do, For, Break, Continue, Return, Stmts, NoStmts, Then, Function, Variable', TypedProgram}
+use Rattle.clight_syntax.specs.TypedTrees.{Expr, Variable, Parenthesis, type_at, Cond, Assignment, Call, Stmt, Empty, Block, Assign, ReadPort, WritePort, CallOf, If, IfElse, While, Do, For, Break, Continue, Return, Stmts, NoStmts, Then, Function, Variable', TypedProgram}
 use Rattle.clight_meaning.specs.Meaning.{argument_list}
 use Rattle.clight_programs.specs.Scopes.{IsShort, IsShortScalar, IsVariable}
 use Rattle.clight_programs.specs.Expressions.{IsTyped, IsTypedCond}

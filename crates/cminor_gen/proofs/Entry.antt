@@ -1,6 +1,6 @@
 -- The blocks of a function's variables, where they come into memory at a call.
-use Rattle.std.proofs.Common.{◌≡◌, ℕ, zero, suc, ◌+◌, ◌-◌, ◌<◌, ◌≤◌, List, [], ◌∷◌, ◌++◌, length, map, Option, Some, None, Bool, true, false, refl, sym, ap, ◌∙◌, subst, arith}
-use Rattle.std.specs.Prelude.{slice_get, replicate, nat_lt, if◌then◌else◌}
+use Rattle.std.proofs.Common.{◌≡◌, ℕ, zero, suc, ◌+◌, ◌-◌, ◌≤◌, List, [], ◌∷◌, ◌++◌, length, map, Option, Some, None, Bool, refl, sym, ap, ◌∙◌, subst, arith}
+use Rattle.std.specs.Prelude.{slice_get, replicate}
 use Rattle.std.proofs.lemmas.Option.{slice_get_within, none-some, same_Some}
 use Rattle.c_types.specs.declared.integers.Size.{Size}
 use Rattle.c_types.specs.declared.integers.Size.TheVariants.{One, Two, Four}
@@ -10,10 +10,10 @@ use Rattle.clight_syntax.specs.declared.typed.Home.TheVariants as h
 use Rattle.clight_syntax.specs.TypedTrees.{Variable'}
 use Rattle.clight_values.specs.declared.value.Value.{Value}
 use Rattle.clight_values.specs.Memory.{Cell, Kinds, repeated, kinds_by, kinds_of_members, kinds_of_struct, nested_kinds, kinds_of, unset, block_in, own_blocks}
-use Rattle.clight_programs.specs.Scopes.{block_addresses, address_in, bytes_of, IsBetween, AreBetween}
+use Rattle.clight_programs.specs.Scopes.{block_addresses, address_in, IsBetween, AreBetween}
 use Rattle.flat_memory.proofs.Lists.{get_front}
 use Rattle.flat_memory.proofs.Shapes.{Shape, IsWide, Holds}
-use Rattle.flat_memory.proofs.Blocks.{kind_at, IsBlock, StartsAt, Placed, cells_of, Rising, AllStart}
+use Rattle.flat_memory.proofs.Blocks.{kind_at, IsBlock, Placed, cells_of, Rising, AllStart}
 
 -- ---- where scalars begin
 

@@ -1,12 +1,12 @@
 -- Below a budget, a program does what is told of a run.
-use Rattle.std.proofs.Common.{◌≡◌, IsTrue, ℕ, zero, suc, ◌+◌, ◌<◌, ◌≤◌, List, [], ◌∷◌, ◌++◌, refl, sym, ap, ◌∙◌, subst, arith}
+use Rattle.std.proofs.Common.{◌≡◌, IsTrue, ℕ, zero, suc, ◌<◌, ◌≤◌, [], ◌∷◌, ◌++◌, arith}
 use Rattle.cerco_base.specs.declared.events.Event.{Event}
 use Rattle.cerco_base.specs.declared.events.Event.TheVariants as event
 use Rattle.cerco_base.specs.declared.events.Label.{Label}
 use Rattle.cerco_base.specs.declared.events.FaultKind.{FaultKind}
-use Rattle.cerco_base.specs.Events.{label_count, Stopped, Ended}
-use Rattle.cerco_traces.specs.Systems.{System, Run, here}
-use Rattle.cerco_traces.specs.Preservation.{Outcome, Stops, Faults, and_then, MeetsFrom}
+use Rattle.cerco_base.specs.Events.{label_count, Ended}
+use Rattle.cerco_traces.specs.Systems.{System, Run}
+use Rattle.cerco_traces.specs.Preservation.{Stops, Faults, MeetsFrom}
 use Rattle.cerco_traces.proofs.Sources.{due_now, ended_now, fault_now, on_run, on_silent_run}
 use Rattle.clight_meaning.specs.Meaning.{Rest, only, says, passes, turns, again}
 

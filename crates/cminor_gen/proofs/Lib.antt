@@ -7,4 +7,12 @@ pub mod Runs
 pub mod Entry
 pub mod Starts
 pub mod Preserved
+pub mod Kept
+pub mod Needs
+pub mod Parameters
+pub mod Formed
+pub mod ExpressionLengths
+pub mod StatementLengths
+pub mod Lengths
 pub mod Promised
+pub mod Numbered

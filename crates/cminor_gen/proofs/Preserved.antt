@@ -1,39 +1,35 @@
 -- Calls, and the whole program.
-use Rattle.std.proofs.Common.{◌≡◌, ◌≢◌, ℕ, zero, suc, ◌+◌, ◌-◌, ◌<◌, ◌≤◌, List, [], ◌∷◌, ◌++◌, length, take, drop, Option, Some, None, Result, Ok, Err, Bool, true, false, refl, sym, ap, ◌∙◌, subst, arith, ◌⊎◌, inl, inr}
+use Rattle.std.proofs.Common.{◌≡◌, ℕ, zero, suc, ◌+◌, ◌<◌, ◌≤◌, List, [], ◌∷◌, ◌++◌, length, take, drop, Some, None, refl, sym, ap, ◌∙◌, subst, arith, ◌⊎◌, inl, inr}
 use Rattle.std.specs.Prelude.{slice_get}
-use Rattle.std.proofs.lemmas.Option.{slice_get_within, none-some, same_Some}
+use Rattle.std.proofs.lemmas.Option.{none-some}
 use Rattle.cerco_base.specs.declared.events.Label.{Label}
 use Rattle.cerco_base.specs.declared.events.FaultKind.{FaultKind}
 use Rattle.cerco_base.specs.declared.events.Event.TheVariants as event
-use Rattle.cerco_base.specs.Events.{IsScript, Stopped, Ended}
-use Rattle.cerco_traces.specs.Systems.{System, Run, here, onward, EachWithin, IsWithin}
-use Rattle.cerco_traces.specs.Preservation.{Stops, Faults, PreservesSource}
+use Rattle.cerco_base.specs.Events.{IsScript, Ended}
+use Rattle.cerco_traces.specs.Systems.{here, onward, IsWithin}
+use Rattle.cerco_traces.specs.Preservation.{Stops, PreservesSource}
 use Rattle.cerco_traces.specs.Worlds.{World, shown, started_from, start_world}
 use Rattle.cerco_traces.proofs.Sources.{meets}
 use Rattle.cerco_middle.specs.Calls.{Values, all_zero, handed_over, first_variables}
-use Rattle.cerco_middle.specs.Cminor.Trees as cm
-use Rattle.cerco_middle.specs.Cminor.Trees.{CmFunction, held_parameters}
-use Rattle.cerco_middle.specs.Cminor.Meaning as c
-use Rattle.cerco_middle.specs.Cminor.Meaning.{Done, Execute, Pass, CmCall, CmState, left_to_do, first_call, main_call, cminor}
+use Rattle.cerco_middle.specs.Cminor.Trees.{held_parameters}
+use Rattle.cerco_middle.specs.Cminor.Meaning.{Done, Execute, CmCall, CmState, left_to_do, first_call, main_call, cminor}
 use Rattle.c_types.specs.Types.{CType, Void, Integer, Pointer, Array, Struct}
 use Rattle.clight_syntax.specs.TypedTrees.{Function, TypedProgram, own_variables}
 use Rattle.clight_values.specs.declared.value.Value.{Value}
-use Rattle.clight_values.specs.declared.value.Block.{Block as Slot}
 use Rattle.clight_values.specs.Memory.{Memory, State, with_blocks, left}
-use Rattle.clight_meaning.specs.Meaning as n
-use Rattle.clight_meaning.specs.Meaning.{Rest, only, passes, turns, again, with_state, prepared, entered, initials, run_all, body_goes, call_of, call, calls, Calling, beginning, source}
-use Rattle.clight_programs.specs.Scopes.{scalar_types, function_scalars, function_blocks, global_addresses}
+use Rattle.clight_meaning.specs.Meaning.{Rest, only, turns, again, with_state, prepared, entered, run_all, body_goes, call_of, call, calls, Calling, beginning, source}
+use Rattle.clight_programs.specs.Scopes.{function_scalars}
 use Rattle.clight_programs.specs.Statements.{Paths}
 use Rattle.clight_programs.specs.Programs.{FunctionFits, GlobalsAreBetween, GlobalsFit, IsChecked}
-use Rattle.flat_memory.proofs.Shapes.{Shape, Reps, Fits, Keeps, keeps_later, reps_later}
+use Rattle.flat_memory.proofs.Shapes.{Shape, Fits, Keeps, keeps_later, reps_later}
 use Rattle.flat_memory.proofs.Blocks.{rising_ends, Extends, forget_reps, keep_reps, left_keeps, Enters, enters}
 use Rattle.cminor_gen.specs.Translation.Statements as s
 use Rattle.cminor_gen.specs.Translation.Start.{items_bytes}
 use Rattle.cminor_gen.specs.Translation.Programs.{translated}
-use Rattle.cminor_gen.proofs.Following.{Follows, follows_less, follows_label, follows_end}
-use Rattle.cminor_gen.proofs.Scalars.{held_is, all_held, Stand, Arguments', arguments_many, arguments_map, initials_of, initials_are, scalars_many, length_taken, new_variables}
+use Rattle.cminor_gen.proofs.Following.{follows_less, follows_label, follows_end}
+use Rattle.cminor_gen.proofs.Scalars.{held_is, Stand, Arguments', arguments_many, arguments_map, initials_of, initials_are, scalars_many, length_taken, new_variables}
 use Rattle.cminor_gen.proofs.Values.{Located}
-use Rattle.cminor_gen.proofs.Runs.{Mem, Left, ResultIs, get_map, GlobalsAt, Fol, CallsFollow, asked, opening, parameter_types, few_parameters, body_run, Framed}
+use Rattle.cminor_gen.proofs.Runs.{Mem, Left, ResultIs, get_map, GlobalsAt, Fol, CallsFollow, asked, opening, parameter_types, few_parameters, body_run}
 use Rattle.cerco_middle.specs.declared.operators.Held.{Held}
 use Rattle.cminor_gen.proofs.Starts.{global_placed, global_placed_cells, global_placed_at, global_placed_rise, global_placed_start}
 use Rattle.cminor_gen.proofs.Entry.{placed, placed_cells, placed_at, placed_rise, placed_start, rising_lower}

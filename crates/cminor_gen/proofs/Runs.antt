@@ -1,17 +1,15 @@
 -- Statements: below each budget the code does what the meaning tells.
-use Rattle.std.proofs.Common.{◌≡◌, ◌≢◌, ℕ, zero, suc, ◌+◌, ◌-◌, ◌^◌, ◌<◌, ◌≤◌, List, [], ◌∷◌, ◌++◌, length, map, take, drop, Option, Some, None, Result, Ok, Err, Bool, true, false, not, refl, sym, ap, ap₂, ◌∙◌, subst, arith, ◌⊎◌, inl, inr, IsTrue, ne_eqb}
-use Rattle.std.specs.Prelude.{slice_get, slice_set, nat_eq, nat_le, unwrap_or, option_map, All, if◌then◌else◌}
+use Rattle.std.proofs.Common.{◌≡◌, ◌≢◌, ℕ, zero, suc, ◌+◌, ◌^◌, ◌<◌, ◌≤◌, List, [], ◌∷◌, ◌++◌, length, map, take, drop, Option, Some, None, Result, Ok, Err, Bool, true, false, not, refl, sym, ap, ◌∙◌, subst, arith, ne_eqb}
+use Rattle.std.specs.Prelude.{slice_get, nat_eq, nat_le, unwrap_or, option_map, if◌then◌else◌}
 use Rattle.std.proofs.lemmas.Option.{slice_get_within, none-some, same_Some}
 use Rattle.std.proofs.lemmas.List.Elements.{All-head, All-tail}
-use Rattle.cerco_base.specs.declared.events.Event.{Event}
 use Rattle.cerco_base.specs.declared.events.Event.TheVariants as event
 use Rattle.cerco_base.specs.declared.events.Port.TheVariants.{P1}
 use Rattle.cerco_base.specs.declared.events.Label.{Label}
 use Rattle.cerco_base.specs.declared.events.FaultKind.{FaultKind}
 use Rattle.cerco_base.specs.declared.events.FaultKind.TheVariants.{Outside}
-use Rattle.cerco_base.specs.Events.{IsScript, next_reading, Stopped, Ended}
-use Rattle.cerco_traces.specs.Systems.{System, Run, here, onward, EachWithin, IsWithin}
-use Rattle.cerco_traces.specs.Preservation.{Stops, Faults}
+use Rattle.cerco_base.specs.Events.{IsScript, next_reading}
+use Rattle.cerco_traces.specs.Systems.{here, onward, EachWithin, IsWithin}
 use Rattle.cerco_traces.specs.Worlds.{World, update, shown}
 use Rattle.cerco_traces.specs.Worlds as world
 use Rattle.cerco_middle.specs.declared.operators.Held.{Held}
@@ -31,22 +29,22 @@ use Rattle.clight_source.specs.declared.tree.MemberOperator.TheVariants.{Dot, Ar
 use Rattle.clight_syntax.specs.declared.typed.Home.{Home}
 use Rattle.clight_syntax.specs.declared.typed.Home.TheVariants as home
 use Rattle.clight_syntax.specs.declared.typed.ResultTarget.{ResultTarget}
-use Rattle.clight_syntax.specs.TypedTrees.{Expr, Variable, Number, Parenthesis, Binary, Prefix, Cast, Index, Select, type_at, Cond, Truth, InParentheses, Not, Both, Either, Assignment, Call, ForHead, Stmt, Empty, Block, Assign, ReadPort, WritePort, CallOf, If, IfElse, While, Do, For, Break, Continue, Return, Stmts, NoStmts, Then, LocalInitialiser, NoValue, Value as LocalValue, Local, Function, Variable', TypedProgram, variable_address, address_at, own_variables}
+use Rattle.clight_syntax.specs.TypedTrees.{Expr, Variable, Number, Parenthesis, Binary, Prefix, Cast, Index, Select, type_at, Cond, Truth, InParentheses, Not, Both, Either, Assignment, Call, Stmt, Empty, Block, Assign, ReadPort, WritePort, CallOf, If, IfElse, While, Do, For, Break, Continue, Return, Stmts, NoStmts, Then, LocalInitialiser, NoValue, Value as LocalValue, Local, Function, Variable', TypedProgram, variable_address, address_at, own_variables}
 use Rattle.clight_values.specs.declared.value.Value.{Value}
 use Rattle.clight_values.specs.declared.value.Value.TheVariants as v
 use Rattle.clight_values.specs.declared.value.Block.{Block as Slot}
 use Rattle.clight_values.specs.Memory.{Answer, Memory, Frame, State, initial, is_true, stored, left}
-use Rattle.clight_values.specs.Operators.{then_value, assigned_value}
+use Rattle.clight_values.specs.Operators.{assigned_value}
 use Rattle.clight_meaning.specs.Expressions as e
 use Rattle.clight_meaning.specs.Expressions.{Position, InCall, Behind, behind, set_scalar, with_memory, stored_in, position}
 use Rattle.clight_meaning.specs.Meaning as n
 use Rattle.clight_meaning.specs.Meaning.{Rest, only, says, passes, turns, again, with_value, with_values, with_state, with_truth, with_byte, then_state, truth_of, test, test_if_any, stored_value, converted_answer, assigned_to, assigned, assigned_if_any, variable_type, assigned_variable, argument_list, argument_values, joined, first_parameter, parameter_in, returned, homed_in, homed, initialised_by, initialised, prepared, body_goes, taken, result_type, result_in, Calling, Goes, loop_goes, until, next_of_for, run, run_all}
 use Rattle.clight_programs.specs.Scopes.{IsShort, IsShortScalar, IsAtHome, IsVariable, global_addresses, function_blocks, function_scalars, scalar_types}
 use Rattle.clight_programs.specs.Expressions.{IsTyped, IsTypedCond}
-use Rattle.clight_programs.specs.Statements.{Paths, IsOwnScalar, IsScalarIn, IsScalarPlace, AssignmentFits, AssignmentFitsIfAny, AllTyped, TargetFits, TargetFitsIfAny, CallFits, CondFitsIfAny, ValueFitsIfAny, StmtFits, StmtsFit}
+use Rattle.clight_programs.specs.Statements.{Paths, IsOwnScalar, IsScalarIn, IsScalarPlace, AssignmentFits, AssignmentFitsIfAny, AllTyped, TargetFitsIfAny, CallFits, CondFitsIfAny, StmtFits, StmtsFit}
 use Rattle.clight_programs.specs.Programs.{ResultFits, InitialiserFits, InitialisersFit, FunctionFits}
 use Rattle.flat_memory.specs.HeldTypes.{held_of}
-use Rattle.flat_memory.proofs.Lists.{same_number, not_same, get_take, length_set}
+use Rattle.flat_memory.proofs.Lists.{get_take, length_set}
 use Rattle.flat_memory.proofs.Ram.{put_ram, put_kept}
 use Rattle.flat_memory.proofs.Shapes.{Shape, Points, Counts, Reps, Fits, Keeps, Means, reps_later, kept_reps}
 use Rattle.flat_memory.proofs.Loads.{StoreOk, store_ok}
@@ -55,8 +53,8 @@ use Rattle.cminor_gen.specs.Translation.Expressions as x
 use Rattle.cminor_gen.specs.Translation.Statements as s
 use Rattle.cminor_gen.specs.Translation.Programs.{translated}
 use Rattle.cminor_gen.proofs.Words.{each_join}
-use Rattle.cminor_gen.proofs.Values.{then_ok, in_type, assigned_ok, Located, PlaceIs, place_ok, value_ok, variable_place, home_place}
-use Rattle.cminor_gen.proofs.Following.{Follows, follows_less, follows_silent, follows_says, follows_label, follows_end, follows_fault, follows_again}
+use Rattle.cminor_gen.proofs.Values.{then_ok, assigned_ok, Located, PlaceIs, place_ok, value_ok, variable_place, home_place}
+use Rattle.cminor_gen.proofs.Following.{Follows, follows_less, follows_silent, follows_says, follows_label, follows_fault, follows_again}
 use Rattle.cminor_gen.proofs.Scalars.{held_is, held_at_type, Stand, set_stand, Arguments', length_taken, initial_reps}
 
 -- ---- what stands between calls

@@ -1,26 +1,24 @@
 -- The variables of a call: how they are held, what assignments leave of them, and how they begin.
-use Rattle.std.proofs.Common.{◌≡◌, ◌≢◌, ℕ, zero, suc, ◌+◌, ◌-◌, ◌<◌, ◌≤◌, List, [], ◌∷◌, ◌++◌, length, take, drop, Option, Some, None, Bool, true, false, refl, sym, ap, ◌∙◌, subst, arith}
-use Rattle.std.specs.Prelude.{slice_get, slice_set, slice_index_or, unwrap_or, nat_eq, nat_lt, if◌then◌else◌}
+use Rattle.std.proofs.Common.{◌≡◌, ℕ, zero, suc, ◌+◌, ◌-◌, ◌<◌, ◌≤◌, List, [], ◌∷◌, ◌++◌, length, take, drop, Some, Bool, true, false, refl, sym, ap, ◌∙◌, subst, arith}
+use Rattle.std.specs.Prelude.{slice_get, slice_set, unwrap_or, nat_eq, nat_lt, if◌then◌else◌}
 use Rattle.std.proofs.lemmas.Option.{slice_get_within, none-some, same_Some}
 use Rattle.std.proofs.lemmas.List.{length-append}
-use Rattle.cerco_base.specs.declared.events.Label.{Label}
 use Rattle.cerco_traces.specs.Worlds.{update}
 use Rattle.cerco_traces.proofs.WorldLaws.{update_same, update_other}
 use Rattle.cerco_middle.specs.declared.operators.Held.{Held}
-use Rattle.cerco_middle.specs.declared.operators.Held.TheVariants.{W16}
 use Rattle.cerco_middle.specs.Operators.{held_bytes, kept}
 use Rattle.cerco_middle.specs.Calls.{Values, all_zero, handed_over, taken_over, first_variables, variable_held}
 use Rattle.c_types.specs.declared.integers.Size.TheVariants.{One, Two, Four}
 use Rattle.c_types.specs.Types.{CType, Void, Integer, Pointer, Array, Struct}
 use Rattle.c_types.specs.Kinds.{is_scalar}
-use Rattle.clight_syntax.specs.TypedTrees.{Variable', Function, TypedProgram}
+use Rattle.clight_syntax.specs.TypedTrees.{Variable'}
 use Rattle.clight_values.specs.declared.value.Value.{Value}
 use Rattle.clight_values.specs.declared.value.Value.TheVariants as v
 use Rattle.clight_values.specs.Memory.{initial}
 use Rattle.clight_meaning.specs.Meaning.{initials}
 use Rattle.clight_programs.specs.Scopes.{IsShortScalar, scalar_types}
 use Rattle.flat_memory.specs.HeldTypes.{held_of}
-use Rattle.flat_memory.proofs.Lists.{same_number, not_same, below, not_below, by_test, get_set_same, get_set_other, length_set, get_front, get_back}
+use Rattle.flat_memory.proofs.Lists.{same_number, not_same, below, not_below, get_set_same, get_set_other, get_front, get_back}
 use Rattle.flat_memory.proofs.Shapes.{Shape, Reps}
 use Rattle.cminor_gen.specs.Translation.Statements.{held_scalars}
 
@@ -181,7 +179,7 @@ length_initials : (Ts : List CType) → length (initials_of Ts) ≡ length Ts
 length_initials [] = refl
 length_initials (T ∷ Ts) = let h = length_initials Ts in omega arith
 
-get_drop : {A : Type 0} (xs : List A) (n i : ℕ) → slice_get (drop n xs) i ≡ slice_get xs (n + i)
+pub get_drop : {A : Type 0} (xs : List A) (n i : ℕ) → slice_get (drop n xs) i ≡ slice_get xs (n + i)
 get_drop [] zero i = refl
 get_drop [] (suc n) i = refl
 get_drop (x ∷ xs) zero i = let z : 0 + i ≡ i = omega arith in ap (slice_get (x ∷ xs)) (sym z)
@@ -196,7 +194,7 @@ length_of_drop (x ∷ xs) (suc n) = let h = length_of_drop xs n in omega arith
 pub scalars_many : (Ts : List CType) (ws : List Value) → length ws ≤ length Ts → length (ws ++ drop (length ws) (initials_of Ts)) ≡ length Ts
 scalars_many Ts ws le = let a = length-append ws (drop (length ws) (initials_of Ts)) in let b = length_of_drop (initials_of Ts) (length ws) in let c = length_initials Ts in omega arith
 
-get_taken : {A : Type 0} (xs : List A) (n k : ℕ) → k < n → slice_get (take n xs) k ≡ slice_get xs k
+pub get_taken : {A : Type 0} (xs : List A) (n k : ℕ) → k < n → slice_get (take n xs) k ≡ slice_get xs k
 get_taken [] zero k lt = refl
 get_taken [] (suc n) k lt = refl
 get_taken (x ∷ xs) zero k lt = absurd (omega arith)

@@ -1,5 +1,5 @@
 -- The first values of globals in external RAM.
-use Rattle.std.proofs.Common.{◌≡◌, ◌≢◌, ℕ, zero, suc, ◌+◌, ◌-◌, ◌*◌, ◌/◌, ◌%◌, ◌<◌, ◌≤◌, List, [], ◌∷◌, ◌++◌, length, map, Option, Some, None, Bool, true, false, refl, sym, ap, ap₂, ◌∙◌, subst, arith, ◌⊎◌, inl, inr}
+use Rattle.std.proofs.Common.{◌≡◌, ℕ, zero, suc, ◌+◌, ◌*◌, ◌/◌, ◌%◌, ◌<◌, ◌≤◌, List, [], ◌∷◌, ◌++◌, length, Option, Some, None, Bool, true, false, refl, sym, ap, ◌∙◌, subst, arith}
 use Rattle.std.specs.Prelude.{slice_get, if◌then◌else◌}
 use Rattle.std.proofs.lemmas.Option.{slice_get_within, none-some, same_Some}
 use Rattle.cerco_base.specs.declared.events.Label.{Label}
@@ -8,19 +8,16 @@ use Rattle.cerco_traces.proofs.WorldLaws.{update_same, update_other}
 use Rattle.c_types.specs.declared.integers.Size.{Size}
 use Rattle.c_types.specs.declared.integers.Size.TheVariants.{One, Two, Four}
 use Rattle.c_types.specs.declared.integers.IntegerType.{IntegerType}
-use Rattle.c_types.specs.Types.{CType, Void, Integer, Pointer, Array, Struct, StructType, bytes}
+use Rattle.c_types.specs.Types.{CType, Void, Integer, Pointer, Array, Struct, StructType}
 use Rattle.c_types.specs.Conversions.{count}
 use Rattle.cerco_middle.specs.Operators.{read_from}
 use Rattle.clight_source.specs.declared.tree.SignedNumber.{SignedNumber}
 use Rattle.clight_source.specs.Trees.{Initialiser, NoInitialiser, Single, Listed}
-use Rattle.clight_syntax.specs.LiteralTypes.{literal_integer}
 use Rattle.clight_syntax.specs.Bounds.{is_initialised}
 use Rattle.clight_syntax.specs.TypedTrees.{Item, StructItem, GlobalItem, PrototypeItem, FunctionItem, TypedProgram, address_at}
-use Rattle.clight_values.specs.declared.value.Value.{Value}
 use Rattle.clight_values.specs.declared.value.Value.TheVariants as v
-use Rattle.clight_values.specs.Values.{converted}
 use Rattle.clight_values.specs.Memory.{Cell, Kinds, repeated, kinds_of, initial}
-use Rattle.clight_values.specs.Globals.{filled, numbers_of, first_value, signed_bits}
+use Rattle.clight_values.specs.Globals.{filled, numbers_of, first_value}
 use Rattle.clight_meaning.specs.Meaning.{variable_type, global_cells, global_blocks}
 use Rattle.clight_programs.specs.Scopes.{IsShortScalar, HasShortScalars, global_addresses, bytes_of}
 use Rattle.clight_programs.specs.Programs.{GlobalsAreBetween, GlobalsFit, TakesInitialiser}
@@ -28,13 +25,13 @@ use Rattle.flat_memory.specs.HeldTypes.{held_of}
 use Rattle.flat_memory.proofs.Ram.{in_ram}
 use Rattle.flat_memory.proofs.Shapes.{Shape, Reps, Holds, IsWide}
 use Rattle.flat_memory.proofs.Blocks.{kind_at, StartsAt, Placed, cells_of, Rising, AllStart}
-use Rattle.cminor_gen.specs.Translation.Start.{first_bits, bytes_from, integers_from, global_bytes, item_bytes, items_bytes}
+use Rattle.cminor_gen.specs.Translation.Start.{first_bits, integers_from, global_bytes, item_bytes, items_bytes}
 use Rattle.cminor_gen.proofs.Entry.{AreKinds, kinds_are, kind_in, block_of}
 
 -- ---- bytes that are written at the start
 
 -- all of them at addresses from lo to before hi
-abbrev AllIn : ℕ → ℕ → List (ℕ × ℕ) → Type 0
+abbrev pub AllIn : ℕ → ℕ → List (ℕ × ℕ) → Type 0
 AllIn lo hi [] = Unit {0}
 AllIn lo hi (x ∷ xs) = (lo ≤ x.0) × (x.0 < hi) × AllIn lo hi xs
 

@@ -1,6 +1,6 @@
 -- A value without a fault is the word of its translation, and only addresses of variables are read.
-use Rattle.std.proofs.Common.{◌≡◌, ◌≢◌, ℕ, zero, suc, ◌+◌, ◌-◌, ◌*◌, ◌%◌, ◌^◌, ◌<◌, ◌≤◌, List, [], ◌∷◌, ◌++◌, Option, Some, None, Result, Ok, Err, Bool, true, false, not, refl, sym, ap, ap₂, ◌∙◌, subst, arith, ◌⊎◌, inl, inr, eq-eqb, ne_eqb}
-use Rattle.std.specs.Prelude.{slice_get, nat_eq, nat_lt, nat_le, if◌then◌else◌, unwrap_or}
+use Rattle.std.proofs.Common.{◌≡◌, ◌≢◌, ℕ, zero, suc, ◌+◌, ◌-◌, ◌*◌, ◌%◌, ◌^◌, ◌<◌, ◌≤◌, List, [], ◌++◌, Option, Some, None, Result, Ok, Err, Bool, true, false, not, refl, sym, ap, ◌∙◌, subst, arith, ◌⊎◌, inl, inr, eq-eqb, ne_eqb}
+use Rattle.std.specs.Prelude.{slice_get, nat_lt, if◌then◌else◌, unwrap_or}
 use Rattle.std.proofs.lemmas.Option.{none-some, same_Some}
 use Rattle.cerco_base.specs.Bytes.{bit_value}
 use Rattle.cerco_base.specs.declared.events.FaultKind.{FaultKind}
@@ -8,7 +8,7 @@ use Rattle.cerco_base.specs.declared.events.Label.{Label}
 use Rattle.cerco_traces.specs.Systems.{EachWithin}
 use Rattle.cerco_traces.specs.Worlds.{World}
 use Rattle.cerco_middle.specs.declared.operators.CmOp.TheVariants as op
-use Rattle.cerco_middle.specs.Operators.{word_bytes, operator_value, kept}
+use Rattle.cerco_middle.specs.Operators.{operator_value, kept}
 use Rattle.cerco_middle.proofs.OperatorLaws.{word_keeps}
 use Rattle.cerco_middle.specs.Calls.{Values}
 use Rattle.cerco_middle.specs.Cminor.Trees as m
@@ -20,31 +20,31 @@ use Rattle.clight_source.specs.declared.tree.MemberOperator.TheVariants.{Dot, Ar
 use Rattle.c_types.specs.declared.integers.IntegerType.{IntegerType}
 use Rattle.c_types.specs.declared.integers.Size.{Size}
 use Rattle.c_types.specs.declared.integers.Size.TheVariants.{One, Two, Four}
-use Rattle.c_types.specs.Types.{CType, Void, Integer, Pointer, Array, Struct, StructType, size_of, bool_eq}
-use Rattle.c_types.specs.Kinds.{integer_type, is_array, value_type, target_of}
+use Rattle.c_types.specs.Types.{CType, Void, Integer, Pointer, Array, Struct, size_of, bool_eq}
+use Rattle.c_types.specs.Kinds.{integer_type, value_type, target_of}
 use Rattle.c_types.specs.Conversions.{count, promoted, promoted_integer, common, common_integer, integer_of, int, unsigned_char}
 use Rattle.clight_syntax.specs.declared.typed.Home.{Home}
 use Rattle.clight_syntax.specs.declared.typed.Home.TheVariants as h
-use Rattle.clight_syntax.specs.TypedTrees.{Expr, Variable, Number, Parenthesis, Binary, Prefix, Cast, Index, Select, type_at, Function, Variable', TypedProgram, variable_address, address_at}
+use Rattle.clight_syntax.specs.TypedTrees.{Expr, Variable, Number, Parenthesis, Binary, Prefix, Cast, Index, Select, type_at, Function, TypedProgram, variable_address, address_at}
 use Rattle.clight_values.specs.declared.value.Value.{Value}
 use Rattle.clight_values.specs.declared.value.Value.TheVariants as v
 use Rattle.clight_values.specs.declared.value.Block.{Block}
-use Rattle.clight_values.specs.Values.{is_negative, magnitude, converted, truth, combined}
-use Rattle.clight_values.specs.Memory.{Answer, Memory, Frame, State, load, moved, stepped, equal, less}
-use Rattle.clight_values.specs.Operators.{then_value, both, answer_of, opposite, of_integers, of_pointer_and_integer, of_integer_and_pointer, of_pointers, operated_by, operated, negated, complemented, indexed, converted_value, as_pointer, assigned_value}
+use Rattle.clight_values.specs.Values.{is_negative, truth, combined}
+use Rattle.clight_values.specs.Memory.{Answer, State, load, moved, stepped, equal, less}
+use Rattle.clight_values.specs.Operators.{then_value, both, answer_of, opposite, of_integers, of_pointer_and_integer, of_integer_and_pointer, of_pointers, operated_by, operated, negated, complemented, indexed, as_pointer, assigned_value}
 use Rattle.clight_meaning.specs.Expressions as e
 use Rattle.clight_meaning.specs.Expressions.{Position, InCall, Behind, behind, pointer_to}
 use Rattle.clight_programs.specs.Numbers.{as_number, shift_for}
-use Rattle.clight_programs.specs.Scopes.{IsShort, IsShortInteger, IsShortScalar, IsAtHome, IsVariable, global_addresses, function_blocks, function_scalars}
-use Rattle.clight_programs.specs.Expressions.{IsConstant, StepsOver, StepsFit, IsPointer, AreComparable, PointersFit, IntegersFit, OperandsFit, IsTyped}
+use Rattle.clight_programs.specs.Scopes.{IsShort, IsShortInteger, IsAtHome, IsVariable, global_addresses, function_blocks, function_scalars}
+use Rattle.clight_programs.specs.Expressions.{IsConstant, StepsOver, IsPointer, AreComparable, PointersFit, IntegersFit, OperandsFit, IsTyped}
 use Rattle.clight_programs.proofs.Exponents.{shift_for_power, shift_for_is}
 use Rattle.flat_memory.specs.HeldTypes.{held_of}
-use Rattle.flat_memory.proofs.Lists.{same_number, not_same, by_test, by_option}
-use Rattle.flat_memory.proofs.Ram.{in_ram, held_at_is}
+use Rattle.flat_memory.proofs.Lists.{by_option}
+use Rattle.flat_memory.proofs.Ram.{held_at_is}
 use Rattle.flat_memory.proofs.Shapes.{Shape, Points, Counts, Reps, Fits, Keeps, Means, block_ends, kept_points}
 use Rattle.flat_memory.proofs.Loads.{load_ok}
-use Rattle.flat_memory.proofs.Pointers.{PointsTo, Moves, MovesBy, Decides, moved_ok, stepped_ok, shift_moves, stepped_word, equal_ok, equal_zero_ok, zero_equal_ok, less_ok}
-use Rattle.flat_memory.proofs.Integers.{type, CountsTo, AreFit, ShiftIs, result_signed, integer_word, integers_ok, negated_ok, complemented_ok, converted_counts, word_is_word, truth_counts}
+use Rattle.flat_memory.proofs.Pointers.{PointsTo, Moves, MovesBy, Decides, moved_ok, stepped_ok, shift_moves, equal_ok, equal_zero_ok, zero_equal_ok, less_ok}
+use Rattle.flat_memory.proofs.Integers.{type, CountsTo, AreFit, ShiftIs, result_signed, integers_ok, negated_ok, complemented_ok, converted_counts, word_is_word, truth_counts}
 use Rattle.cminor_gen.specs.Translation.Operators as t
 use Rattle.cminor_gen.specs.Translation.Expressions as x
 use Rattle.cminor_gen.proofs.Words.{each_join, with_offset_reads, offset_moves, offset_by_moves, shift_step_word, product_step_word, step_reads, operation_reads, integers_word}
@@ -747,7 +747,7 @@ module _ (p : TypedProgram Label) (f : Function Label) (S : Shape) (d : ℕ) (fi
     value_ok (Prefix T Negate at a) ty = negate_ok (type_at a) T ty.1 ty.2 (e.value p a st) (x.value p a) (value_ok a ty.0)
     value_ok (Prefix T Complement at a) ty = complement_ok (type_at a) T ty.1 ty.2 (e.value p a st) (x.value p a) (value_ok a ty.0)
     value_ok (Prefix T Dereference at a) ty = value_at_ok T (e.value p a st) (x.value p a) (any_pointer T Void _ _ _ (in_type S st.made d _ _ _ _ _ ty.1 (value_ok a ty.0)))
-    value_ok (Prefix T AddressOf at a) ty = in_type S st.made d _ _ _ _ _ (ap value_type (sym ty.1)) (any_pointer Void (type_at a) _ _ _ (address_of (e.position p a st) (x.place p a) (place_ok a ty.0)))
+    value_ok (Prefix T AddressOf at a) ty = in_type S st.made d _ _ _ _ _ (ap value_type (sym ty.2)) (any_pointer Void (type_at a) _ _ _ (address_of (e.position p a st) (x.place p a) (place_ok a ty.0)))
     value_ok (Prefix T NotPrefix at a) ty = absurd ty
     value_ok (Cast T left words right a) ty = cast_ok (type_at a) T ty.1 ty.2 (e.value p a st) (x.value p a) (value_ok a ty.0)
     value_ok (Index T base left index right) ty = value_at_ok T _ _ (element_address T base index ty.1 ty.2 ty.3 (value_ok base ty.0) (value_ok index ty.1))

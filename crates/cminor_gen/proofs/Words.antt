@@ -1,21 +1,20 @@
 -- The words of translated operators, by those of their operands.
-use Rattle.std.proofs.Common.{◌≡◌, ◌≢◌, ℕ, zero, suc, ◌+◌, ◌-◌, ◌*◌, ◌%◌, ◌^◌, ◌<◌, ◌≤◌, List, [], ◌∷◌, ◌++◌, Option, Some, None, Bool, true, false, not, refl, sym, ap, ap₂, ◌∙◌, subst, arith}
-use Rattle.std.specs.Prelude.{nat_eq, if◌then◌else◌}
+use Rattle.std.proofs.Common.{◌≡◌, ℕ, ◌+◌, ◌-◌, ◌*◌, ◌%◌, ◌^◌, ◌<◌, List, [], ◌∷◌, ◌++◌, Option, Some, None, Bool, true, false, refl, sym, ap, ap₂, subst, arith}
+use Rattle.std.specs.Prelude.{nat_eq}
 use Rattle.cerco_traces.specs.Systems.{EachWithin}
 use Rattle.cerco_traces.specs.Worlds.{World}
 use Rattle.cerco_middle.specs.declared.operators.CmOp.TheVariants as op
-use Rattle.cerco_middle.specs.Operators.{word_bytes, operator_value, shifted_left, negated}
+use Rattle.cerco_middle.specs.Operators.{operator_value, shifted_left, negated}
 use Rattle.cerco_middle.specs.Calls.{Values}
 use Rattle.cerco_middle.specs.Cminor.Trees as m
 use Rattle.cerco_middle.specs.Cminor.Meaning as c
 use Rattle.clight_source.specs.declared.tree.BinaryOperator.{BinaryOperator}
 use Rattle.clight_source.specs.declared.tree.BinaryOperator.TheVariants as o
 use Rattle.c_types.specs.declared.integers.IntegerType.{IntegerType}
-use Rattle.clight_values.specs.Values.{is_negative}
 use Rattle.clight_programs.specs.Numbers.{shift_for}
-use Rattle.flat_memory.proofs.Lists.{by_test, by_option, same_number}
+use Rattle.flat_memory.proofs.Lists.{by_test, same_number}
 use Rattle.flat_memory.proofs.Pointers.{Moves, stepped_word}
-use Rattle.flat_memory.proofs.Integers.{type, less_op, most_op, integer_word}
+use Rattle.flat_memory.proofs.Integers.{less_op, most_op, integer_word}
 use Rattle.cminor_gen.specs.Translation.Operators as t
 
 pub each_join : (d : ℕ) (as' bs : List ℕ) → EachWithin d as' → EachWithin d bs → EachWithin d (as' ++ bs)

@@ -12,8 +12,8 @@ ghost use Rattle.rtl.specs.Lengths.{vreg_length, register_need};
 ghost use Rattle.rtl.specs.Code.Views.{program_of};
 ghost use Rattle.ertl_gen.specs.Translation.{exchanged, ertl_of, KeepsOutline};
 
-use byte_renaming::{Naming, rename_graphs};
-use cerco_base::{NoMemory, StartBytes};
+use byte_renaming::{Naming, copy_start, rename_graphs};
+use cerco_base::NoMemory;
 use rtl::{Bytes, Vreg};
 use std::alloc::Global;
 
@@ -30,17 +30,6 @@ impl Naming<Vreg, Vreg> for Exchange {
             n => Vreg(n),
         }
     }
-}
-
-// A copy of the bytes that the start writes.
-fn copy_start(alloc: Global, start: &StartBytes) -> Result<StartBytes, NoMemory>
-    ensures { IfOk result (λ copy. copy ≡ start.now) }
-{
-    let mut copy = StartBytes::new(alloc);
-    for &(at, byte) in start.bytes() {
-        copy.push(at, byte)?;
-    }
-    Ok(copy)
 }
 
 /// The ERTL program of an RTL program (CerCo, deliverable 4.2). The argument and result bytes, which

@@ -10,3 +10,4 @@ pub mod Sums
 pub mod Kept
 mod Lengths
 mod Formed
+mod Whole

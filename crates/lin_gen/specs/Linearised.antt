@@ -1,6 +1,7 @@
 -- Whole programs of linear code, each function of which is an ordering of its graph, and what is promised of them (CerCo, deliverable
 -- 4.2: LTL and LIN have the same traces).
 use Rattle.std.specs.Prelude.{◌≡◌, ◌≤◌, List, [], ◌∷◌}
+use Rattle.std.specs.List.{AllByRecursion}
 use Rattle.cerco_traces.specs.Preservation.{Preserves}
 use Rattle.rtl.specs.declared.locations.Place.{Place}
 use Rattle.rtl.specs.Programs.{Graph, Bytes}
@@ -8,8 +9,16 @@ use Rattle.rtl.specs.Items.{LinItem, LinProgram}
 use Rattle.rtl.specs.Meaning.{ltl}
 use Rattle.rtl.specs.Linear.{lin}
 use Rattle.rtl.specs.Lengths.{ltl_length, lin_length}
-use Rattle.rtl.specs.WellFormed.{NamesNodes, IsLtl, IsLinProgram}
+use Rattle.rtl.specs.Graphs.{IsSoundlyLabelled}
+use Rattle.rtl.specs.WellFormed.{NamesNodes, NamesPlaces, IsGraph, IsLtl, IsLinProgram}
 use Rattle.lin_gen.specs.Ordering.{IsOrdering}
+
+-- what is asked of a graph, and of each of these graphs
+abbrev pub IsReady : Graph Place → Type 0
+IsReady g = IsSoundlyLabelled g × (IsGraph g × NamesPlaces g)
+
+abbrev pub AreReady : List (Graph Place) → Type 0
+AreReady gs = AllByRecursion IsReady gs
 
 -- each function is an ordering of its graph, whose nodes name nodes
 abbrev pub AreOrderings : List (Graph Place) → List (List LinItem) → Type 0

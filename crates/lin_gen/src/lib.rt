@@ -14,10 +14,12 @@ ghost use Rattle.lin_gen.specs.Linearised.{LinearisedPreserves, LinearisedIsForm
 
 mod items;
 mod placing;
+mod programs;
 
 use cerco_base::NoMemory;
 use items::lay;
 use placing::order;
+pub use programs::linearise_program;
 use rtl::{Graph, Lin, Place};
 use std::alloc::Global;
 

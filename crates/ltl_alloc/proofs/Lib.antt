@@ -7,3 +7,4 @@ pub mod Framing
 pub mod Marks
 pub mod OneCells
 pub mod Program
+pub mod RenamedLists

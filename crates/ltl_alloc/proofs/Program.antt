@@ -29,7 +29,8 @@ use Rattle.ltl_alloc.specs.declared.frames.Bases.{Bases}
 use Rattle.ltl_alloc.specs.Allocations.{spot_of, any_place, place_or_any, place_in, IsExact}
 use Rattle.ltl_alloc.specs.Allocated.{Serves, PlacesAll, EachHas, sizes_of}
 use Rattle.ltl_alloc.specs.Frames.{first_of, AreBases}
-use Rattle.ltl_alloc.specs.Translation.{at_base, placed, renamed_graphs}
+use Rattle.ltl_alloc.specs.Translation.{at_base, placed, EachFits, renamed_graphs, ltl_of}
+use Rattle.cerco_base.specs.CallOrder.{Called}
 use Rattle.ltl_alloc.specs.Renamed.{RenamingPreserves, RenamingForms, RenamingKeeps}
 use Rattle.ltl_alloc.proofs.Related.{placed_graphs, AreFramed, LivesOnlyErtl}
 use Rattle.ltl_alloc.proofs.Preserved.{placing_preserves}
@@ -264,3 +265,43 @@ places_exist program allocations bases formed some exact are few =
           let end = before_largest (length (sizes_of allocations)) program.calls (sizes_of allocations) f (first_of bases f) bases.need (are.firsts f known) are.need in
           omega (arith, end, few)),
     )
+
+-- ---- a program that is made of parts
+
+cells_of : (graphs : List (Graph Vreg)) (allocations : List Allocation) → EachHas Serves graphs allocations → (f : ℕ) (a : Allocation) → slice_get allocations f ≡ Some a → ((v n : ℕ) → spot_of a v ≡ Some (Cell n) → n < a.cells) × (slice_index (sizes_of allocations) f ≡ a.cells) × (f < length allocations)
+cells_of graphs [] all f a at = absurd (none_there at)
+  where
+    none_there : None ≡ Some a → ⊥
+    none_there e = cc
+cells_of [] (b ∷ more) all f a at = absurd all
+cells_of (g ∷ gs) (b ∷ more) all zero a at = (subst (λ z. (v n : ℕ) → spot_of z v ≡ Some (Cell n) → n < z.cells) same all.0.cells, ap (λ (z : Allocation). z.cells) same, omega arith)
+  where
+    same : b ≡ a
+    same = cc
+cells_of (g ∷ gs) (b ∷ more) all (suc f) a at =
+    let later = cells_of gs more all.1 f a at in
+    let lt = later.2 in
+    (later.0, later.1, omega (arith, lt))
+
+pub fits_each : (calls : List Called) (graphs : List (Graph Vreg)) (allocations : List Allocation) (bases : Bases) → EachHas Serves graphs allocations → AreBases calls (sizes_of allocations) bases → bases.need ≤ 112 → EachFits allocations bases.firsts
+fits_each calls graphs allocations bases each are few f a at v n e =
+    let cells = cells_of graphs allocations each f a at in
+    let size = cells.1 in
+    let lt = cells.2 in
+    let count : length (sizes_of allocations) ≡ length allocations = length-map allocations (λ (z : Allocation). z.cells) in
+    let known : f < length (sizes_of allocations) = omega (arith, lt, count) in
+    let end = before_largest (length (sizes_of allocations)) calls (sizes_of allocations) f (first_of bases f) bases.need (are.firsts f known) are.need in
+    let low = cells.0 v n e in
+    omega (arith, end, few, low, size)
+
+abbrev bytes_of : List (Graph Place) → List Called → ℕ → List (ℕ × ℕ) → Bytes Place
+bytes_of graphs calls main start = record { graphs = graphs; calls = calls; main = main; start = start }
+
+-- what holds of the translation holds of a program of its parts
+pub made :
+    (program : Bytes Vreg) (allocations : List Allocation) (firsts : List ℕ) (P : Bytes Place → Type 0) (graphs : List (Graph Place)) (calls : List Called) (start : List (ℕ × ℕ))
+    → graphs ≡ renamed_graphs program.graphs allocations firsts → calls ≡ program.calls → start ≡ program.start → P (ltl_of program allocations firsts) → P (bytes_of graphs calls program.main start)
+made program allocations firsts P graphs calls start g c s law =
+    subst (λ gs. P (bytes_of gs calls program.main start)) (sym g)
+    (subst (λ cs. P (bytes_of (renamed_graphs program.graphs allocations firsts) cs program.main start)) (sym c)
+    (subst (λ bs. P (bytes_of (renamed_graphs program.graphs allocations firsts) program.calls program.main bs)) (sym s) law))

@@ -1,6 +1,6 @@
 -- The LTL program of an ERTL program (CerCo, deliverable 4.2: ERTL to LTL): in each function each virtual register is in the place
 -- that the allocation gives it, and the cells are counted from the function's first cell on.
-use Rattle.std.specs.Prelude.{◌≡◌, ℕ, ◌+◌, ◌<◌, ◌^◌, List, [], ◌∷◌, Some}
+use Rattle.std.specs.Prelude.{◌≡◌, ℕ, ◌+◌, ◌<◌, ◌^◌, List, [], ◌∷◌, Some, slice_get, slice_index}
 use Rattle.rtl.specs.declared.locations.Vreg.{Vreg}
 use Rattle.rtl.specs.declared.locations.Place.{Place}
 use Rattle.rtl.specs.declared.locations.Place.TheVariants.{Reg, Arg, Cell}
@@ -23,6 +23,10 @@ placed a base v = at_base base (place_in a v.0)
 -- each cell of the allocation has a number of one byte in such a frame
 abbrev pub FitsAt : Allocation → ℕ → Type 0
 FitsAt a base = (v n : ℕ) → spot_of a v ≡ Some (Spot.Cell n) → base + n < 2 ^ 8
+
+-- the same of each function, at its own first cell
+abbrev pub EachFits : List Allocation → List ℕ → Type 0
+EachFits allocations firsts = (f : ℕ) (a : Allocation) → slice_get allocations f ≡ Some a → FitsAt a (slice_index firsts f)
 
 -- each function by its own allocation, at its own first cell
 abbrev pub renamed_graphs : List (Graph Vreg) → List Allocation → List ℕ → List (Graph Place)

@@ -11,4 +11,4 @@ pub mod renaming;
 pub use allocation::{Allocation, Spot, Spots};
 pub use frames::{Bases, Firsts, place_frames};
 pub use plainest::one_cell_each;
-pub use renaming::rename;
+pub use renaming::{rename, to_ltl};

@@ -1,17 +1,26 @@
-//! Graphs over the places of an allocation.
-ghost use Rattle.std.specs.Prelude.{◌≡◌, ℕ, ◌+◌, ◌<◌, ◌^◌, Some, IfOk};
-ghost use Rattle.rtl.specs.Graphs.{renamed_graph};
-ghost use Rattle.rtl.specs.Code.Views.{graph_of};
+//! Graphs and programs over the places of allocations.
+ghost use Rattle.std.specs.Prelude.{◌≡◌, ℕ, ◌+◌, ◌<◌, ◌≤◌, ◌^◌, length, map, Some, IfOk};
+ghost use Rattle.cerco_traces.specs.Preservation.{Preserves};
+ghost use Rattle.rtl.specs.Locations.{vreg_number};
+ghost use Rattle.rtl.specs.Graphs.{renamed_graph, graph_at, numbered, AreSoundlyLabelled};
+ghost use Rattle.rtl.specs.Meaning.{ertl as ertl_run, ltl as ltl_run};
+ghost use Rattle.rtl.specs.WellFormed.{IsErtl, IsLtl};
+ghost use Rattle.rtl.specs.CallingConvention.{RespectsConvention};
+ghost use Rattle.rtl.specs.Lengths.{vreg_length, ltl_length};
+ghost use Rattle.rtl.specs.Code.Views.{graph_of, program_of};
 ghost use Rattle.ltl_alloc.specs.declared.allocation.Spot.TheVariants as Spot;
-ghost use Rattle.ltl_alloc.specs.Allocations.{any_place, place_or_any};
-ghost use Rattle.ltl_alloc.specs.Translation.{at_base, placed, FitsAt};
-ghost use Rattle.ltl_alloc.specs.Renamed.{RenamingPreserves, RenamingForms, RenamingKeeps};
+ghost use Rattle.ltl_alloc.specs.Allocations.{any_place, place_or_any, IsExact};
+ghost use Rattle.ltl_alloc.specs.Translation.{at_base, placed, FitsAt, EachFits, renamed_graphs, ltl_of};
+ghost use Rattle.ltl_alloc.specs.Allocated.{Serves, PlacesAll, EachHas, sizes_of};
+ghost use Rattle.ltl_alloc.specs.Frames.{AreBases};
+ghost use Rattle.ltl_alloc.specs.Renamed.{RenamingPreserves, RenamingForms, RenamingKeeps, KeepsOutline};
 ghost use Rattle.ltl_alloc.specs.Code.PlaceTables.{place_in_table, IsTableOf};
 
 use crate::allocation::{Allocation, Spot};
-use byte_renaming::{Naming, rename_graph};
+use crate::frames::Bases;
+use byte_renaming::{Naming, copy_start, rename_graph};
 use cerco_base::NoMemory;
-use rtl::{Graph, Place, Vreg};
+use rtl::{Bytes, Graph, Graphs, Place, Sequence, Vreg};
 use std::alloc::Global;
 
 // The place of each virtual register, by number.
@@ -87,4 +96,57 @@ pub fn rename(
 {
     let places = places_at(alloc, a, base)?;
     rename_graph(alloc, &places, graph)
+}
+
+// Graphs over places, each by its own allocation at its own first cell.
+fn rename_all(
+    alloc: Global,
+    graphs: &[Graph<Vreg>],
+    allocations: &[Allocation],
+    firsts: &[u8],
+) -> Result<Graphs<Place>, NoMemory>
+    requires allocations { length allocations.now ≡ length graphs.now }
+    requires firsts { length firsts.now ≡ length graphs.now }
+    requires fits { EachFits allocations.now firsts.now }
+    ensures { IfOk result (λ renamed. map graph_of renamed ≡ renamed_graphs (map graph_of graphs.now) allocations.now firsts.now) }
+{
+    let mut renamed = Sequence::new(alloc);
+    for (f, graph) in graphs.iter().enumerate() {
+        renamed.push(rename(alloc, graph, &allocations[f], firsts[f])?)?;
+    }
+    Ok(renamed)
+}
+
+/// The LTL program of an ERTL program: each function over the places of its allocation, which is a
+/// proper colouring, with the bases of `place_frames`. It fails only when out of memory.
+pub fn to_ltl(
+    alloc: Global,
+    program: &Bytes<Vreg>,
+    allocations: &[Allocation],
+    bases: &Bases,
+) -> Result<Bytes<Place>, NoMemory>
+    requires allocations { EachHas Serves (program_of program.now).graphs allocations.now }
+    requires bases { AreBases program.now.calls (sizes_of allocations.now) bases.now }
+    requires enough { bases.now.need ≤ 112 }
+    ensures is { IfOk result (λ ltl. program_of ltl ≡ ltl_of (program_of program.now) allocations.now bases.now.firsts) }
+    ensures preserves { IfOk result (λ ltl. IsErtl (program_of program.now) → RespectsConvention 0 (graph_at (numbered vreg_number (program_of program.now))) → Preserves (ertl_run (program_of program.now)) (ltl_run (program_of ltl))) }
+    ensures formed { IfOk result (λ ltl. IsErtl (program_of program.now) → EachHas PlacesAll (program_of program.now).graphs allocations.now → EachHas (λ graph a. IsExact a) (program_of program.now).graphs allocations.now → IsLtl (program_of ltl)) }
+    ensures labelled { IfOk result (λ ltl. AreSoundlyLabelled (program_of program.now).graphs → AreSoundlyLabelled (program_of ltl).graphs) }
+    ensures same { IfOk result (λ ltl. KeepsOutline (program_of program.now) (program_of ltl)) }
+    ensures length { IfOk result (λ ltl. ltl_length (program_of ltl) ≤ vreg_length (program_of program.now)) }
+{
+    let calls = program.calls.duplicate()?;
+    let start = copy_start(alloc, &program.start)?;
+    let graphs = rename_all(
+        alloc,
+        program.graphs.as_slice(),
+        allocations,
+        bases.firsts.as_slice(),
+    )?;
+    Ok(Bytes {
+        graphs,
+        calls,
+        main: program.main,
+        start,
+    })
 }

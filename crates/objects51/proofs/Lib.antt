@@ -4,6 +4,7 @@ pub mod Laid
 pub mod Objects
 pub mod Labels
 pub mod Places
+pub mod Courses
 pub mod Follows
 pub mod Steps
 pub mod Preserved

@@ -1,8 +1,9 @@
 //! The graphs of sources are soundly labelled, as a plain checker sees it: the entry and the node after each call are labels with no
 //! other way in, both arms of a test are labels, no node is the false arm of two tests, and each way around a loop passes a label.
+//! Labels are there once, those of unreachable code too.
 
 use cerco_base::{Fault, NoMemory};
-use cerco_middle::{RtFunction, RtNode, RtOp};
+use cerco_middle::{RtFunction, RtLabs, RtNode, RtOp};
 use clight_check::check;
 use clight_reader::parse;
 use clight_tokens::tokens;
@@ -11,20 +12,60 @@ use cost_labels::label;
 use rtlabs_gen::to_rtlabs;
 use std::alloc::Global;
 
+const ARMS: &str = "void main(void){unsigned char a;a=P1;if(a);else P1=1;}";
+
+const DO_LOOP: &str =
+    "void main(void){unsigned char a;unsigned char b;a=P1;b=P1;do{if(a)break;}while(b);}";
+
+const WHILE_BOTH: &str =
+    "void main(void){unsigned char a;unsigned char b;a=P1;b=P1;while(a&&b){a=0;P1=b;}}";
+
+const UNREACHABLE: &str = "void main(void){return;P1=1;while(1);}";
+
 #[rattlefmt::skip]
-const SOURCES: [&str; 12] = [
+const RING: &str = "unsigned char ring[32];unsigned char head;unsigned char tail;unsigned char fill;unsigned int total;\
+unsigned char last=255;unsigned char level=255;\
+void put(unsigned char b){ring[head]=b;head=(head+1)&31;fill=fill+1;}\
+unsigned char get(void){unsigned char b;b=ring[tail];tail=(tail+1)&31;fill=fill-1;return b;}\
+void add(unsigned char b){unsigned char old;if(fill>=16){old=get();total=total-old;}put(b);total=total+b;}\
+void sample(void){unsigned char b;b=P1;if(b==last)level=b;last=b;add(level);}\
+void main(void){while(1){sample();P1=total>>4;}}";
+
+#[rattlefmt::skip]
+const SOURCES: [&str; 24] = [
     "void main(void){}",
     "void main(void){unsigned char x;x=P1;}",
-    "void main(void){unsigned char a;a=P1;if(a);else P1=1;}",
-    "void main(void){unsigned char a;unsigned char b;a=P1;b=P1;do{if(a)break;}while(b);}",
-    "void main(void){unsigned char a;unsigned char b;a=P1;b=P1;while(a&&b){a=0;P1=b;}}",
+    "void main(void){unsigned char x;x=P1;P1=x;x=P1;P1=x;}",
+    ARMS,
+    DO_LOOP,
+    WHILE_BOTH,
+    "void main(void){signed char a;unsigned char b;a=P1;b=P1;if(a<1)P1=1;if(b<1)P1=2;}",
+    "void main(void){int c;unsigned int d;c=-1;d=0xFFFF;if(c<1)P1=1;if(d<1)P1=2;if(c==d)P1=3;}",
+    "void main(void){unsigned char i;i=0;while(i<2){P1=i;P1=i;P1=i;i=i+1;}}",
+    "void main(void){P1=((((((((((((((((((((((((((((((((((((((((((((((((((((((((((((((((1))))))))))))))))))))))))))))))))))))))))))))))))))))))))))))))));}",
+    RING,
+    "void main(void){unsigned char a;unsigned char b;a=P1;b=8;b=b/a;P1=b;}",
+    UNREACHABLE,
+    "unsigned char a[65534];void main(void){}",
     "void main(void){while(1){while(1)break;}}",
     "void main(void){return;while(1)P1=1;}",
     "void main(void){unsigned char i;for(i=0;i<9;i=i+1){if(i==1)continue;if(i==3)break;P1=i;}}",
     "void main(void){for(;;);}",
+    "void main(void){unsigned char a;a=P1;if(!(a||!a&&a))P1=1;else{}do;while(!a&&a);}",
     "unsigned char f(unsigned char a,int b){if(a||!(b&&a))return b;return a;}void main(void){unsigned char i;i=f(1,2);f(i,i);P1=i;}",
+    "unsigned char f(void){while(1){while(1)return 3;}}void main(void){unsigned char i;i=f();P1=i;}",
     "int g[3]={1,2};struct s{int a;char b;};struct s x;void main(void){int *p;p=&g[1];*p=*p+g[2];x.b=*p;P1=x.b;}",
+    "int t;void main(void){int *p;p=&t;*p=-*p+2;*p=~*p<<3;*p=*p>>1;P1=*p|t^3&t;P1=p==&t;}",
     "void f(void){while(1)if(1)continue;else break;}void main(void){do do f();while(0);while(1);}",
+];
+
+// Sources, and how many labels each of them has.
+const LABELLED: [(&str, u32); 5] = [
+    (ARMS, 3),
+    (DO_LOOP, 5),
+    (WHILE_BOTH, 5),
+    (UNREACHABLE, 3),
+    (RING, 15),
 ];
 
 // How the nodes of a graph are reached, and which of them each way on passes a label or ends.
@@ -147,13 +188,18 @@ fn is_sound(alloc: Global, function: &RtFunction) -> Result<bool, NoMemory> {
     )
 }
 
-// Whether the graphs of a source are soundly labelled.
-fn has_sound_graphs(alloc: Global, text: &str) -> Result<bool, Fault> {
+// The graphs of a source.
+fn graphs_of(alloc: Global, text: &str) -> Result<RtLabs, Fault> {
     let list = tokens(alloc, text.as_bytes())?;
     let typed = check(alloc, parse(alloc, &list)?)?;
     let labelled = label(alloc, typed)?;
     let cminor = to_cminor(alloc, &labelled)?;
-    let graphs = to_rtlabs(alloc, &cminor)?;
+    Ok(to_rtlabs(alloc, &cminor)?)
+}
+
+// Whether the graphs of a source are soundly labelled.
+fn has_sound_graphs(alloc: Global, text: &str) -> Result<bool, Fault> {
+    let graphs = graphs_of(alloc, text)?;
     for function in graphs.functions.as_slice() {
         if !is_sound(alloc, function)? {
             return Ok(false);
@@ -162,11 +208,74 @@ fn has_sound_graphs(alloc: Global, text: &str) -> Result<bool, Fault> {
     Ok(graphs.functions.len() > 0)
 }
 
+// How many nodes have each of the labels below a number.
+fn label_counts(
+    alloc: Global,
+    functions: &[RtFunction],
+    labels: u32,
+) -> Result<Vec<u32>, NoMemory> {
+    let mut counts = vec![in alloc; 0; labels as usize]?;
+    for function in functions {
+        for node in function.nodes.as_slice() {
+            if let RtOp::Label(label) = node.op {
+                raise(&mut counts, u32::from(label.0));
+            }
+        }
+    }
+    Ok(counts)
+}
+
+// Whether the graphs of a source have each of the labels below a number once, and no other.
+fn has_each_label_once(alloc: Global, text: &str, labels: u32) -> Result<bool, Fault> {
+    let graphs = graphs_of(alloc, text)?;
+    let counts = label_counts(alloc, graphs.functions.as_slice(), labels.saturating_add(1))?;
+    let (last, others) = counts.split_last().unwrap_or((&0, &[]));
+    Ok(*last == 0 && others.iter().all(|count| *count == 1))
+}
+
+// How many ways lead to a label in these nodes, and of how many tests it is the false arm.
+fn ways_to(alloc: Global, nodes: &[RtNode], label: u32) -> Result<Option<(u32, u32)>, NoMemory> {
+    let marks = marks_of(alloc, nodes)?;
+    let found = nodes.iter().position(
+        |node| matches!(node.op, RtOp::Label(l) if u32::from(l.0) == label),
+    );
+    Ok(match found {
+        Some(p) => match (marks.ways_in.get(p), marks.false_arms.get(p)) {
+            (Some(ways), Some(arms)) => Some((*ways, *arms)),
+            _ => None,
+        },
+        None => None,
+    })
+}
+
+fn ways_to_label(alloc: Global, text: &str, label: u32) -> Result<Option<(u32, u32)>, Fault> {
+    let graphs = graphs_of(alloc, text)?;
+    match graphs.functions.first() {
+        Some(function) => Ok(ways_to(alloc, function.nodes.as_slice(), label)?),
+        None => Ok(None),
+    }
+}
+
 #[test]
 fn graphs_are_soundly_labelled(rt: HostRuntime) -> Result<(), Fault> {
     for text in &SOURCES {
         assert!(rt; has_sound_graphs(rt.alloc(), text)?, "{text}");
     }
+    Ok(())
+}
+
+#[test]
+fn labels_are_there_once(rt: HostRuntime) -> Result<(), Fault> {
+    for (text, labels) in &LABELLED {
+        assert!(rt; has_each_label_once(rt.alloc(), text, *labels)?, "{text}");
+    }
+    Ok(())
+}
+
+// From the `break`, and from the false way of the loop's test.
+#[test]
+fn the_exit_label_has_two_ways_in(rt: HostRuntime) -> Result<(), Fault> {
+    assert!(rt; ways_to_label(rt.alloc(), DO_LOOP, 4)? == Some((2, 1)));
     Ok(())
 }
 

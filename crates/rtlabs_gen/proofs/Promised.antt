@@ -10,11 +10,12 @@ use Rattle.cerco_middle.specs.declared.rtlabs.RtLabs as code
 use Rattle.cerco_middle.specs.Code.Views.{rtlabs_of}
 use Rattle.cerco_middle.specs.RtLabs.Graphs.{RtFunction, RtLabs, flow_graph}
 use Rattle.rtlabs_gen.specs.Translation.{translated_function, translated}
-use Rattle.rtlabs_gen.specs.Promises.{OfBoth, KeepsFunction, KeepsProgram, AreSoundlyLabelled, NeedNoMore}
+use Rattle.rtlabs_gen.specs.Promises.{OfBoth, KeepsFunction, KeepsProgram, AreSoundlyLabelled, NeedNoMore, KeepsSums}
 use Rattle.rtlabs_gen.proofs.Certified.{always_certified}
 use Rattle.rtlabs_gen.proofs.Labelled.{certified_labelled}
 use Rattle.rtlabs_gen.proofs.LabelCounts.{function_count}
 use Rattle.rtlabs_gen.proofs.Needs.{need_is_less}
+use Rattle.rtlabs_gen.proofs.Lengths.{sum_of_body}
 use Rattle.rtlabs_gen.proofs.Paths.{translated_from}
 
 same_function : {f g : CmFunction} → Some f ≡ Some g → f ≡ g
@@ -41,6 +42,9 @@ translation_labelled p i g is =
 
 pub translation_needs : (p : Cminor) → NeedNoMore p (translated p)
 translation_needs p = of_both p _ (need_is_less p.functions)
+
+pub translation_sums : (p : Cminor) → KeepsSums p (translated p)
+translation_sums p weight same = of_both p _ (sum_of_body weight same p.functions)
 
 -- what holds of the definition's graphs holds of those that a call answers
 pub of_answer : (p : Cminor) (answer : Result code.RtLabs NoMemory) (Holds : RtLabs → Type 0) → Holds (translated p) → IfOk answer (λ r. rtlabs_of r ≡ translated p) → IfOk answer (λ r. Holds (rtlabs_of r))

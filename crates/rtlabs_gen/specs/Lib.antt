@@ -1,3 +1,4 @@
 pub mod Translation
 pub mod Stands
+pub mod Outline
 pub mod Promises

@@ -1,6 +1,6 @@
 -- What is promised of the graphs of a program, beside its traces: it keeps its functions by their numbers, its entry, its calls, what it
--- sets first, and the labels of each function, those in unreachable code too; each graph is soundly labelled; and no function needs
--- more bytes of registers than before (CerCo, deliverables 2.1 and 3.3).
+-- sets first, and the labels of each function, those in unreachable code too; each graph is soundly labelled; no function needs more
+-- bytes of registers than before; and all sums over its operations are kept (CerCo, deliverables 2.1 and 3.3).
 use Rattle.std.specs.Prelude.{◌≡◌, ℕ, ◌≤◌, [], ◌∷◌, length, Some, slice_get}
 use Rattle.cerco_traces.specs.LabelledGraphs.{SoundlyLabelled}
 use Rattle.cerco_middle.specs.Programs.{times_in}
@@ -8,6 +8,8 @@ use Rattle.cerco_middle.specs.Cminor.Trees.{CmFunction, Cminor, stmt_labels}
 use Rattle.cerco_middle.specs.Cminor.Sums as cm
 use Rattle.cerco_middle.specs.RtLabs.Graphs.{RtFunction, RtLabs, flow_graph, labels_of_nodes}
 use Rattle.cerco_middle.specs.RtLabs.Sums as rt
+use Rattle.cerco_middle.specs.declared.rtlabs.RtOp.{RtOp}
+use Rattle.rtlabs_gen.specs.Outline.{bare_op, body_nodes}
 use Rattle.cerco_middle.specs.RtLabs.WellFormed.{OfFunctions}
 
 -- it holds of each function and of the graph with the same number
@@ -33,3 +35,11 @@ AreSoundlyLabelled q = OfFunctions q (λ g. SoundlyLabelled (flow_graph g) g.ent
 
 abbrev pub NeedNoMore : Cminor → RtLabs → Type 0
 NeedNoMore p q = OfBoth p q (λ f g. rt.register_need g ≤ cm.register_need p.functions f)
+
+-- a weight of operations that doesn't look at the numbers of nodes
+abbrev pub IsUnnumbered : (RtOp → ℕ) → Type 0
+IsUnnumbered weight = (op : RtOp) → weight (bare_op op) ≡ weight op
+
+-- Each such weight sums to the same over a graph as over what the statements of its function tell.
+abbrev pub KeepsSums : Cminor → RtLabs → Type 0
+KeepsSums p q = (weight : RtOp → ℕ) → IsUnnumbered weight → OfBoth p q (λ f g. rt.sum_of_nodes weight g.nodes ≡ rt.sum_of_nodes weight (body_nodes p.functions f))

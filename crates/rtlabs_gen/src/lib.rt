@@ -12,7 +12,7 @@ ghost use Rattle.cerco_middle.specs.RtLabs.Meaning.{rtlabs};
 ghost use Rattle.cerco_middle.specs.RtLabs.WellFormed.{IsWellFormed};
 ghost use Rattle.cerco_middle.specs.RtLabs.Sums.{long_length};
 ghost use Rattle.rtlabs_gen.specs.Translation.{translated};
-ghost use Rattle.rtlabs_gen.specs.Promises.{AreSoundlyLabelled, KeepsProgram, NeedNoMore};
+ghost use Rattle.rtlabs_gen.specs.Promises.{AreSoundlyLabelled, KeepsProgram, NeedNoMore, KeepsSums};
 
 mod calls;
 mod exits;
@@ -63,6 +63,8 @@ pub fn to_rtlabs(alloc: Global, program: &Cminor) -> Result<RtLabs, NoMemory>
     ensures same { IfOk result (λ r. KeepsProgram (cminor_of program.now) (rtlabs_of r)) }
     ensures length { IfOk result (λ r. long_length (rtlabs_of r) ≡ length_of_cminor (cminor_of program.now)) }
     ensures need { IfOk result (λ r. NeedNoMore (cminor_of program.now) (rtlabs_of r)) }
+    // of these, length and need and the labels follow
+    ensures sums { IfOk result (λ r. KeepsSums (cminor_of program.now) (rtlabs_of r)) }
 {
     graphs(alloc, program)
 }

@@ -1,7 +1,7 @@
 -- What becomes of C's expressions and conditions in Cminor (ISO/IEC 9899:1999, 6.5; CerCo, deliverable 3.3): a scalar that lives in
 -- no block is a variable of its call, and each other place is its address. Conversions to two bytes need no operation, since a
 -- variable and a load extend what they hold.
-use Rattle.std.specs.Prelude.{false, ℕ, ◌%◌, List, [], ◌∷◌, Option, Some, None, slice_get, option_map, map}
+use Rattle.std.specs.Prelude.{false, ℕ, ◌%◌, List, Option, Some, None, slice_get, map}
 use Rattle.cerco_base.specs.declared.events.Label.{Label}
 use Rattle.cerco_middle.specs.Cminor.Trees as m
 use Rattle.cerco_middle.specs.Cminor.Trees.{CmExpr, CmCond}

@@ -1,8 +1,7 @@
 -- What becomes of C's operators in Cminor (ISO/IEC 9899:1999, 6.5.2 to 6.5.12; CerCo, deliverable 3.3): operands are words, each
 -- the value of its integer type extended to two bytes, or an address. Steps of pointers are sums of addresses and bytes.
-use Rattle.std.specs.Prelude.{ℕ, ◌+◌, ◌-◌, ◌*◌, ◌%◌, ◌^◌, Bool, true, false, Option, Some, None, nat_eq, if◌then◌else◌}
-use Rattle.cerco_middle.specs.declared.operators.Held.{Held}
-use Rattle.cerco_middle.specs.declared.operators.Held.TheVariants.{U8, I8, W16}
+use Rattle.std.specs.Prelude.{ℕ, ◌+◌, ◌-◌, ◌*◌, ◌%◌, Bool, true, false, Option, Some, None, nat_eq, if◌then◌else◌}
+use Rattle.cerco_middle.specs.declared.operators.Held.TheVariants.{U8, I8}
 use Rattle.cerco_middle.specs.declared.operators.CmOp.{CmOp}
 use Rattle.cerco_middle.specs.declared.operators.CmOp.TheVariants.{Add, Sub, Mul, Div, Rem, And, Or, Xor, Eq, Ne, LtS, LtU, LeS, LeU}
 use Rattle.cerco_middle.specs.Cminor.Trees.{CmExpr, Const, Var, Load, Neg, Complement, Narrow, Bin, Shl, Shr}

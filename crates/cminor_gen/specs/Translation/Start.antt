@@ -3,10 +3,9 @@
 use Rattle.std.specs.Prelude.{ℕ, zero, suc, ◌+◌, ◌/◌, ◌%◌, List, [], ◌∷◌, ◌++◌, Option, Some, None, slice_get, if◌then◌else◌}
 use Rattle.cerco_base.specs.declared.events.Label.{Label}
 use Rattle.clight_source.specs.declared.tree.SignedNumber.{SignedNumber}
-use Rattle.clight_source.specs.Trees.{Global}
 use Rattle.c_types.specs.declared.integers.IntegerType.{IntegerType}
 pub use Rattle.c_types.specs.Types.{bytes}
-use Rattle.c_types.specs.Types.{CType, Integer, Array}
+use Rattle.c_types.specs.Types.{CType, Array}
 use Rattle.c_types.specs.Kinds.{integer_type}
 use Rattle.clight_syntax.specs.LiteralTypes.{literal_integer}
 pub use Rattle.clight_syntax.specs.Bounds.{is_initialised}

@@ -11,7 +11,7 @@ use Rattle.c_types.specs.Kinds.{is_scalar}
 use Rattle.clight_syntax.specs.declared.typed.Home.{Home}
 use Rattle.clight_syntax.specs.declared.typed.Home.TheVariants as h
 use Rattle.clight_syntax.specs.declared.typed.ResultTarget.{ResultTarget}
-use Rattle.clight_syntax.specs.TypedTrees.{Expr, type_at, Cond, Assignment, Call, ForHead, Stmt, Empty, Block, Assign, ReadPort, WritePort, CallOf, If, IfElse, While, Do, For, Break, Continue, Return, Stmts, NoStmts, Then, LocalInitialiser, NoValue, Value, Local, Function, Variable', TypedProgram, own_variables, address_at}
+use Rattle.clight_syntax.specs.TypedTrees.{type_at, Assignment, Call, ForHead, Stmt, Empty, Block, Assign, ReadPort, WritePort, CallOf, If, IfElse, While, Do, For, Break, Continue, Return, Stmts, NoStmts, Then, LocalInitialiser, NoValue, Value, Local, Function, Variable', TypedProgram, own_variables, address_at}
 use Rattle.clight_meaning.specs.Meaning.{argument_list, variable_type}
 use Rattle.flat_memory.specs.HeldTypes.{held_of}
 use Rattle.cminor_gen.specs.Translation.Expressions.{scalar_in, scalar_at, place, value, values, condition}

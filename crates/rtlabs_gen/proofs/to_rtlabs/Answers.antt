@@ -7,11 +7,11 @@ use Rattle.cerco_middle.specs.Cminor.Sums.{long_length as length_of_cminor}
 use Rattle.cerco_middle.specs.RtLabs.Meaning.{rtlabs}
 use Rattle.cerco_middle.specs.RtLabs.WellFormed.{IsWellFormed}
 use Rattle.cerco_middle.specs.RtLabs.Sums.{long_length}
-use Rattle.rtlabs_gen.specs.Promises.{AreSoundlyLabelled, KeepsProgram, NeedNoMore}
+use Rattle.rtlabs_gen.specs.Promises.{AreSoundlyLabelled, KeepsProgram, NeedNoMore, KeepsSums}
 use Rattle.rtlabs_gen.proofs.Preserved.{translation_preserves}
 use Rattle.rtlabs_gen.proofs.Formed.{translation_formed}
 use Rattle.rtlabs_gen.proofs.Lengths.{same_long_length}
-use Rattle.rtlabs_gen.proofs.Promised.{translation_keeps, translation_labelled, translation_needs, of_answer}
+use Rattle.rtlabs_gen.proofs.Promised.{translation_keeps, translation_labelled, translation_needs, translation_sums, of_answer}
 use Rattle.rtlabs_gen.proofs.to_rtlabs.Goals as goal
 
 pub returns-clause-preserves : goal.returns-clause-preserves
@@ -43,3 +43,8 @@ pub returns-clause-need : goal.returns-clause-need
 returns-clause-need c =
     let p = cminor_of c.args.program.now in
     of_answer p c.graphs.result (NeedNoMore p) (translation_needs p) c.graphs.ensures
+
+pub returns-clause-sums : goal.returns-clause-sums
+returns-clause-sums c =
+    let p = cminor_of c.args.program.now in
+    of_answer p c.graphs.result (KeepsSums p) (translation_sums p) c.graphs.ensures
