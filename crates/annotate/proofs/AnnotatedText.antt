@@ -1,6 +1,6 @@
 -- What an annotated text is: the text without its annotations is the source again, and the numbers
 -- are those of the annotations. Both for every list of points in the order of the text.
-use Rattle.std.proofs.Common.{◌≡◌, ℕ, zero, suc, add-one, ◌+◌, ◌-◌, ◌^◌, ◌<◌, ◌≤◌, false, List, [], ◌∷◌, ◌++◌, length, map, take, drop, slice_index, All, decimal, codes, refl, sym, ap, ◌∙◌, inl, inr, append_assoc, append-nil, subst, take-append-drop, take_at, drop_at, drop-drop, take-add, ap₂, lit<, arith}
+use Rattle.std.proofs.Common.{◌≡◌, ℕ, zero, suc, add-one, ◌+◌, ◌-◌, ◌^◌, ◌<◌, ◌≤◌, false, List, [], ◌∷◌, ◌++◌, length, map, take, drop, slice_index, decimal, codes, refl, sym, ap, ◌∙◌, inl, inr, append_assoc, append-nil, subst, take-append-drop, take_at, drop_at, drop-drop, take-add, ap₂, lit<, arith}
 use Rattle.std.specs.List.{flat_map, list_any, concat, range_with_len}
 use Rattle.std.proofs.Math.Seq.{take-length, drop-cons}
 use Rattle.std.specs.Prelude.{nat_eq}
@@ -14,6 +14,7 @@ use Rattle.clight_syntax.specs.declared.points.Point.{Point}
 use Rattle.clight_syntax.specs.Annotations.{Costs, cost_of, around, inner_text, piece_text, with_text_at, annotated, AreInOrderFrom, AreInOrder, labels_of, labels_in, AreNumberedFrom, AreNumberedInOrder, AreLabelsBelow, HaveLabelsBelow, numbers_of, IsNoStart, HaveNoStart, BeginWithStart}
 use Rattle.annotate.specs.Erasure.{parts, even_parts, odd_parts, erased}
 use Rattle.clight_source.specs.Markers.{HasNoMarker}
+use Rattle.annotate.specs.Laws.{AreCostsBelow}
 use Rattle.annotate.specs.Numbers.{numbers_in, numbers}
 use Rattle.annotate.proofs.Cutting.{cut-annotated, cut-plain_alone, even_parts-cons, HasNoMarker-drop, HasNoMarker-take}
 use Rattle.annotate.proofs.DecimalTexts.{list_all-decimal, list_any-digits, numbers_in-set, numbers_in-added}
@@ -41,11 +42,6 @@ no_slash_in_inner costs (CondBoth on_true on_false) =
     no_slash_around (codes ")?(__cost+=") (around (codes ",1):(__cost+=") (cost_of costs on_false) (codes ",0))")) (cost_of costs on_true) refl
     (no_slash_around (codes ",1):(__cost+=") (codes ",0))") (cost_of costs on_false) refl refl)
 no_slash_in_inner costs (CondRepeat label) = no_slash_around (codes ")?(__cost+=") (codes ",1):0)") (cost_of costs label) refl refl
-
--- the start and each label cost less than a number
-pub record AreCostsBelow (limit : ℕ) (costs : Costs) : Type 0 where
-  pub start : costs.start < limit
-  pub labels : All (λ cost. cost < limit) costs.labels
 
 -- also where there is no such label
 cost_below : (costs : Costs) (label : Label) → AreCostsBelow (2 ^ 64) costs → cost_of costs label < 2 ^ 64

@@ -16,7 +16,7 @@ with_front-with_byte byte front [] = refl
 with_front-with_byte byte front (part ∷ parts) = refl
 
 -- the parts of a text are one or more, so that nothing in front of the first changes nothing
-with_front-nil : (skip : ℕ) (text : List ℕ) → with_front [] (cut skip text) ≡ cut skip text
+pub with_front-nil : (skip : ℕ) (text : List ℕ) → with_front [] (cut skip text) ≡ cut skip text
 with_front-nil skip [] = refl
 with_front-nil (suc skip) (byte ∷ text) = with_front-nil skip text
 with_front-nil zero (byte ∷ text) = at_test (starts_with nat_eq (byte ∷ text) annotation_mark) (cut zero text) where
@@ -26,7 +26,7 @@ with_front-nil zero (byte ∷ text) = at_test (starts_with nat_eq (byte ∷ text
   at_test false (p ∷ ps) = refl
 
 -- a byte at which no mark begins belongs to the part that goes on behind it
-cut_byte : (byte : ℕ) (text : List ℕ) → starts_with nat_eq (byte ∷ text) annotation_mark ≡ false → cut 0 (byte ∷ text) ≡ with_byte byte (cut 0 text)
+pub cut_byte : (byte : ℕ) (text : List ℕ) → starts_with nat_eq (byte ∷ text) annotation_mark ≡ false → cut 0 (byte ∷ text) ≡ with_byte byte (cut 0 text)
 cut_byte byte text none = ap (λ (test : Bool). cond test ([] ∷ cut 4 text) (with_byte byte (cut 0 text))) none
 
 -- three tests fail together, so that these and further ones do

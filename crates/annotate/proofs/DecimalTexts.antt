@@ -57,7 +57,7 @@ take_while-digits (d ∷ ds) rest all ends =
     ∙ ap (λ t. d ∷ t) (take_while-digits ds rest tests.1 ends)
 
 -- digits that are one alone or begin with no 0 are a number
-decimal_number-digits : (ds : List ℕ) → 0 < length ds → (get_or ds 0 0 ≡ 48 → length ds ≡ 1) → decimal_number ds ≡ Some (digits_value 10 ds)
+pub decimal_number-digits : (ds : List ℕ) → 0 < length ds → (get_or ds 0 0 ≡ 48 → length ds ≡ 1) → decimal_number ds ≡ Some (digits_value 10 ds)
 decimal_number-digits [] some first = absurd (omega arith)
 decimal_number-digits (d ∷ []) some first = refl
 decimal_number-digits (d ∷ e ∷ ds) some first =

@@ -55,3 +55,7 @@ rest_put s t u source points costs index from r past a p =
     let Put : List Point → Type 0 = λ ps. SoFar s t (annotated source points costs) (annotated_from from (drop from source) ps costs) in
     let Last : List ℕ → Type 0 = λ rest. PutsText t u rest r in
     last_put s t u (annotated source points costs) (drop from source) r (subst Put (drop_all index points past) a.put) (subst Last (take_rest source from) p)
+
+-- what is still to be put, as another text that is the same
+pub still_to_put : (s t : SinkState) (text rest other : List ℕ) → rest ≡ other → SoFar s t text rest → SoFar s t text other
+still_to_put s t text rest other same a = subst (λ (r : List ℕ). SoFar s t text r) same a

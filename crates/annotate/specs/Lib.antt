@@ -1,2 +1,4 @@
+pub mod Code
 pub mod Erasure
+pub mod Laws
 pub mod Numbers

@@ -1,4 +1,5 @@
-//! The annotated text of a source: the source with the C text that makes it count its own cost.
+//! The annotated text of a source: the source with the C text that makes it count its own cost. Its
+//! numbers are read back, and the source is.
 #![tactic(auto)]
 
 ghost use Rattle.std.specs.Prelude.{◌≡◌, ◌<◌, ◌++◌, ◌∷◌, length, slice_index, decimal, codes};
@@ -9,9 +10,17 @@ ghost use Rattle.annotate.specs.Erasure.{erased};
 ghost use Rattle.clight_source.specs.Markers.{HasNoMarker};
 ghost use Rattle.annotate.specs.Numbers.{numbers};
 
+mod cuts;
+mod erasing;
+mod laws;
+mod reading;
+
 use cerco_base::{IoFault, Label, Sink, put_all};
 use clight_syntax::{Piece, Point, Points};
+pub use erasing::erase;
 use itoa::Buffer;
+pub use laws::costs_of_runs;
+pub use reading::read_cost;
 
 // Puts a number in decimal between two texts.
 fn put_number<O: Sink>(

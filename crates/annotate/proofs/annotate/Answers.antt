@@ -1,6 +1,7 @@
 use Rattle.std.proofs.Common.{◌^◌, arith}
 use Rattle.std.proofs.lemmas.List.{get_or_default}
-use Rattle.annotate.proofs.AnnotatedText.{AreCostsBelow, erased-annotated, numbers-annotated, numbers-planned}
+use Rattle.annotate.specs.Laws.{AreCostsBelow}
+use Rattle.annotate.proofs.AnnotatedText.{erased-annotated, numbers-annotated, numbers-planned}
 use Rattle.annotate.proofs.annotate.Goals as goal
 
 pub returns-clause-erases : goal.returns-clause-erases

@@ -1,0 +1,3 @@
+mod Spelled
+mod Thinning
+pub mod Places

@@ -1,0 +1,3 @@
+pub mod CostLists
+pub mod Costs
+pub mod Runs
