@@ -1,0 +1,10 @@
+pub mod Unique
+pub mod MarksAlike
+pub mod LabelCounts
+pub mod CminorLabels
+pub mod SameBounds
+pub mod OtherOrder
+pub mod Read
+pub mod Room
+pub mod Costing
+pub mod Whole

@@ -1,0 +1,4 @@
+pub mod Programs
+pub mod Built
+pub mod Compiled
+pub mod Laws
