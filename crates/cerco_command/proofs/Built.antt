@@ -10,15 +10,18 @@ use Rattle.cerco_base.specs.declared.reasons.Reason.{Reason}
 use Rattle.cerco_base.specs.declared.reasons.Reason.TheVariants as r
 use Rattle.clight_check.specs.Soundness.{HasUnsoundness}
 use Rattle.clight_reader.specs.Reasons.{HasReason}
-use Rattle.cerco_command.specs.PlainPrograms.{IsOtherProgram}
+use Rattle.cerco_pipeline.specs.Programs.{HasFirstReason, HasRoomByText}
+use Rattle.cerco_pipeline.specs.Built.{IsRefused}
+use Rattle.cerco_command.specs.Refusals.{status_of_refusal}
+use Rattle.cerco_command.specs.Refusals as line_of
 use Rattle.cerco_command.specs.Answers.{AreWritten, ArePartlyWritten}
-use Rattle.cerco_command.specs.Building.{AreCompiled, outputs, HasFirstReason, SaysRefused, Builds, PartlyBuilds, IsOutput, BuildMeans}
+use Rattle.cerco_command.specs.Building.{AreCompiled, outputs, SaysRefused, SaysNoRoom, Builds, PartlyBuilds, IsOutput, BuildMeans}
 use Rattle.cerco_command.specs.Inputs.{IsRead, CannotRead}
 use Rattle.cerco_command.specs.Messages.{no_file}
-use Rattle.cerco_command.specs.Code.Stages.{IsNameOf, Finishes, BuildsOn}
+use Rattle.cerco_command.specs.Code.Stages.{Replies, IsNameOf, Finishes, BuildsOn}
 use Rattle.cerco_command.proofs.Writing.{written_from, partly_from}
 use Rattle.cerco_command.specs.declared.status.Status.{Status}
-use Rattle.cerco_command.specs.declared.status.Status.TheVariants.{Done, NoFile, Refused, FileFault, NoMemory}
+use Rattle.cerco_command.specs.declared.status.Status.TheVariants.{Done, NoFile, Refused, NoRoom, FileFault, NoMemory}
 
 -- names that differ one way differ the other way
 differ_back : (a b : List ℕ) → bytes_eq a b ≡ false → bytes_eq b a ≡ false
@@ -99,22 +102,22 @@ whole_first : (text all : List ℕ) (reason : Reason) → text ≡ take 65536 al
 whole_first text all reason e (inl h) = inl (whole_reason text all reason e h)
 whole_first text all reason e (inr h) = inr (whole_unsoundness text all reason e h)
 
-whole_other : (text all : List ℕ) → text ≡ take 65536 all → IsOtherProgram text → IsOtherProgram all
-whole_other text all e o = subst IsOtherProgram (whole text all e o.is_tree.tokens.source.short) o
-
 whole_refused : (text all line : List ℕ) → text ≡ take 65536 all → SaysRefused text line → SaysRefused all line
-whole_refused text all line e (inl h) = inl (h.0, whole_first text all h.0 e h.1, h.2)
-whole_refused text all line e (inr h) = inr (whole_other text all e h.0, h.1)
+whole_refused text all line e h = (h.0, whole_first text all h.0 e h.1, h.2)
+
+whole_no_room : (text all line : List ℕ) → text ≡ take 65536 all → SaysNoRoom text line → SaysNoRoom all line
+whole_no_room text all line e h = subst (λ (t : List ℕ). SaysNoRoom t line) (whole text all e h.is_program.is_tree.tokens.source.short) h
 
 -- the texts of the source are made, and written or not
 pub made : (files : BuildFiles) (source hex map annotated : List ℕ) (s t : FilesState) (status : Status) (line : List ℕ) → AreCompiled source hex map annotated → Finishes (outputs files hex map annotated) s t status line → BuildsOn files source s t status line
 made files source hex map annotated s t Refused line texts f = absurd f.0
+made files source hex map annotated s t NoRoom line texts f = absurd f.0
 made files source hex map annotated s t NoMemory line texts f = inr (record { hex = hex; map = map; annotated = annotated; texts = texts; finishes = f })
 made files source hex map annotated s t status line texts f = record { hex = hex; map = map; annotated = annotated; texts = texts; finishes = f }
 
 module _ (files : BuildFiles) (text : List ℕ) (s t u : FilesState) (later : s.faults ≤ t.faults) (read : IsTrue s.known → IsRead 65536 s files.source text) (same : IsTrue s.known → SameFiles s t) (known : IsTrue s.known → IsTrue t.known) where
   source_read : (hex map annotated : List ℕ) → AreCompiled text hex map annotated → (h : IsTrue s.known) → s.file files.source ≡ Some text
-  source_read hex map annotated c h = let r = read h in r.1 ∙ ap Some (sym (whole text r.0 r.2 c.compiled.is_tree.tokens.source.short))
+  source_read hex map annotated c h = let r = read h in r.1 ∙ ap Some (sym (whole text r.0 r.2 c.compiled.is_program.is_tree.tokens.source.short))
 
   part : (hex map annotated : List ℕ) → AreCompiled text hex map annotated → (IsTrue t.known → ArePartlyWritten (outputs files hex map annotated) t u) → IsTrue s.known → PartlyBuilds files s u
   part hex map annotated a p h =
@@ -156,15 +159,47 @@ module _ (files : BuildFiles) (text : List ℕ) (s t u : FilesState) (later : s.
   refused line says rest true e = let r = read e in (r.0, whole_refused text r.0 line r.2 says, λ h. record { read = r.1; same = λ q. rest (known h) q ∙ same h q })
   refused line says rest false e = (text, says, λ h. absurd (true≢false (sym h ∙ e)))
 
+  no_room : (line : List ℕ) → SaysNoRoom text line → (IsTrue t.known → SameFiles t u) → (k : Bool) → s.known ≡ k → BuildMeans files s u NoRoom line
+  no_room line says rest true e = let r = read e in (r.0, whole_no_room text r.0 line r.2 says, λ h. record { read = r.1; same = λ q. rest (known h) q ∙ same h q })
+  no_room line says rest false e = (text, says, λ h. absurd (true≢false (sym h ∙ e)))
+
   pub built : HaveDifferentNames files → (status : Status) (line : List ℕ) → BuildsOn files text t u status line → BuildMeans files s u status line
   built d Done line b = (b.finishes.0, all (different files d) b.hex b.map b.annotated b.texts b.finishes.1)
   built d Refused line b = refused line b.0 b.1 s.known refl
+  built d NoRoom line b = no_room line b.0 b.1 s.known refl
   built d FileFault line b =
       let why = b.finishes.0 in
       (why.0, rose_since s.faults t.faults u.faults later why.1, inr (is_output b.hex b.map b.annotated why.2, part b.hex b.map b.annotated b.texts b.finishes.1))
   built d NoMemory line (inl b) = (b.0, λ h. inl (λ q. b.1 (known h) q ∙ same h q))
   built d NoMemory line (inr b) = (b.finishes.0, λ h. inr (part b.hex b.map b.annotated b.texts b.finishes.1 h))
   built d status line b = absurd b.finishes.0
+
+-- a refusal is answered, or there is no memory for its line
+answered_on : (files : BuildFiles) (text : List ℕ) (s : FilesState) (meant status : Status) (said line : List ℕ) → BuildsOn files text s s meant said → Replies meant said status line → BuildsOn files text s s status line
+answered_on files text s meant status said line b (inl e) =
+    subst (λ (st : Status). BuildsOn files text s s st line) (sym e.0) (subst (λ (l : List ℕ). BuildsOn files text s s meant l) (sym e.1) b)
+answered_on files text s meant status said line b (inr e) = subst (λ (st : Status). BuildsOn files text s s st line) (sym e.0) (inl (e.1, λ known q. refl))
+
+-- the source has a reason, or is too big
+refused_on : (files : BuildFiles) (text : List ℕ) (reason : Reason) (s : FilesState) → IsRefused text reason → (HasRoomByText text → ⊥) → BuildsOn files text s s (status_of_refusal reason) (line_of.refused reason)
+refused_on files text (r.CellsFull need) s h free =
+    (record { program = h.0; is_program = h.1; reason = r.CellsFull need; lacks = h.2; line_is = refl; not_by_text = free }, λ known q. refl)
+refused_on files text (r.CodeFull len) s h free =
+    (record { program = h.0; is_program = h.1; reason = r.CodeFull len; lacks = h.2; line_is = refl; not_by_text = free }, λ known q. refl)
+refused_on files text r.TooLong s h free = ((r.TooLong, h, refl), λ known q. refl)
+refused_on files text (r.Byte at) s h free = ((r.Byte at, h, refl), λ known q. refl)
+refused_on files text (r.Marker at) s h free = ((r.Marker at, h, refl), λ known q. refl)
+refused_on files text (r.Token at) s h free = ((r.Token at, h, refl), λ known q. refl)
+refused_on files text (r.Syntax at) s h free = ((r.Syntax at, h, refl), λ known q. refl)
+refused_on files text (r.Nesting at) s h free = ((r.Nesting at, h, refl), λ known q. refl)
+refused_on files text (r.Name at kind) s h free = ((r.Name at kind, h, refl), λ known q. refl)
+refused_on files text (r.Typing at kind) s h free = ((r.Typing at kind, h, refl), λ known q. refl)
+refused_on files text (r.Recursion at) s h free = ((r.Recursion at, h, refl), λ known q. refl)
+refused_on files text (r.StackFull depth) s h free = ((r.StackFull depth, h, refl), λ known q. refl)
+refused_on files text (r.DataFull total) s h free = ((r.DataFull total, h, refl), λ known q. refl)
+
+pub turned_down : (files : BuildFiles) (text : List ℕ) (reason : Reason) (s : FilesState) (status : Status) (line : List ℕ) → IsRefused text reason → (HasRoomByText text → ⊥) → Replies (status_of_refusal reason) (line_of.refused reason) status line → BuildsOn files text s s status line
+turned_down files text reason s status line h free says = answered_on files text s (status_of_refusal reason) status (line_of.refused reason) line (refused_on files text reason s h free) says
 
 -- the source couldn't be read
 pub not_built : (files : BuildFiles) (s t : FilesState) (status : Status) (line : List ℕ) → (IsTrue s.known → SameFiles s t) → CannotRead (files.source ∷ []) s t status line → BuildMeans files s t status line

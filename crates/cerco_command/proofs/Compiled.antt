@@ -1,113 +1,119 @@
--- What a program of port writes is compiled to keeps the promise.
-use Rattle.std.proofs.Common.{◌≡◌, ℕ, zero, suc, ◌<◌, List, [], ◌∷◌, ◌++◌, map, false, IsTrue, Result, Ok, Err, is_err, sym, ap, subst, ◌∙◌, lit<, lit≤, arith, All, slice_index}
-use Rattle.std.proofs.lemmas.List.Elements.{All-head, All-tail}
-use Rattle.mcs51_isa.specs.declared.instr.Instr.TheVariants.{Ret}
-use Rattle.mcs51_isa.specs.declared.instr.ReturnKind.TheVariants.{FromCall}
-use Rattle.sim51.specs.Placed.{code_of_instrs}
-use Rattle.object_hex.specs.HexMeaning.{IsHexText}
-use Rattle.object_hex.specs.MapMeaning.{IsMapText}
-use Rattle.object_hex.proofs.HexBack.{hex_text-means}
-use Rattle.object_hex.proofs.MapBack.{map_text-means}
-use Rattle.std.specs.List.{flat_map}
+-- What a source is built to, and the texts that are made of it, keep the promise.
+use Rattle.std.proofs.Common.{◌≡◌, ℕ, suc, ◌+◌, ◌<◌, ◌≤◌, List, [], ◌∷◌, ◌++◌, IsTrue, Result, Ok, Err, Some, refl, sym, ap, ap₂, subst, ◌∙◌, arith, length, slice_get, slice_index}
+use Rattle.std.specs.Prelude.{unwrap_or, sum_by}
+use Rattle.std.proofs.lemmas.List.Sums.{sum_by-cons}
+use Rattle.std.proofs.lemmas.Option.{unwrap_or-slice_get}
 use Rattle.cerco_base.specs.Outside.IoStates.{SinkState}
 use Rattle.cerco_base.specs.Outside.IoCalls.{PutsText}
+use Rattle.cerco_base.specs.declared.events.Event.{Event}
+use Rattle.cerco_base.specs.declared.events.Event.TheVariants as Shown
+use Rattle.cerco_base.specs.declared.events.Label.{Label}
 use Rattle.cerco_base.specs.declared.outside.faults.IoFault.{IoFault}
-use Rattle.clight_syntax.specs.Annotations.{Costs, annotated, numbers_of}
-use Rattle.annotate.specs.Erasure.{erased}
-use Rattle.clight_source.specs.Markers.{HasNoMarker}
-use Rattle.annotate.specs.Numbers.{numbers, cost_at}
-use Rattle.sim51.specs.Runs.{object, cycles_of_run}
-use Rattle.clight_syntax.specs.declared.points.Point.{Point}
-use Rattle.plain_programs.specs.PlainPrograms.{Plain, points}
-use Rattle.plain_programs.proofs.Headlines.{keeps_to_labelled}
-use Rattle.cerco_command.specs.PlainPrograms.{IsPlainProgram}
-use Rattle.cerco_command.proofs.PlainTrees.{few, are_bytes}
-use Rattle.cerco_command.specs.Code.PortObjects.{write, code, labels, costs}
-use Rattle.cerco_command.specs.Building.{IsCompiled, AreCompiled}
+use Rattle.cerco_traces.specs.Preservation.{Outcome, Stops, Faults, Source}
+use Rattle.cerco_traces.specs.Headline.{ArrivesWith, KeepsTo, Headline}
+use Rattle.sim51.specs.Runs.{Running, object, cycles_of_run}
+use Rattle.asm51.specs.Emission.{labels_of}
 use Rattle.object_hex.specs.HexText.{hex_text}
 use Rattle.object_hex.specs.MapText.{map_text}
-use Rattle.cerco_command.proofs.PortBounds.{stands, code_fits}
-use Rattle.cerco_command.proofs.PortCosts.{cost_of_body}
-use Rattle.cerco_command.proofs.Promise.{headline_holds}
+use Rattle.object_hex.specs.HexMeaning.{IsHexText}
+use Rattle.object_hex.proofs.HexBack.{hex_text-means}
+use Rattle.object_hex.proofs.MapBack.{map_text-means}
+use Rattle.object_hex.specs.MapMeaning.{IsMapText}
+use Rattle.clight_syntax.specs.Annotations.{Costs}
+use Rattle.clight_syntax.specs.Annotations.{annotated as annotated_text}
+use Rattle.clight_syntax.specs.declared.points.Point.{Point}
+use Rattle.clight_syntax.specs.Labelling.{points_of}
+use Rattle.clight_syntax.specs.TypedTrees.{TypedProgram}
+use Rattle.block_costs.specs.Sums.{cost_of_events, event_cost}
+use Rattle.annotate.specs.Numbers.{numbers, label_cost_in, start_cost_in, cost_at}
+use Rattle.annotate.specs.Numbers as annotate
+use Rattle.cerco_pipeline.specs.Built.{IsChainOf, IsBuilt}
+use Rattle.cerco_command.specs.Building.{IsCompiled, AreCompiled}
+use Rattle.cerco_command.specs.Code.Stages.{MayStand, IsAnnotatedText}
+use Rattle.cerco_command.proofs.Objects.{length-code_of, may_stand}
 
--- what an output in memory that never fails has collected
-pub collected : (s t : SinkState) (text : List ℕ) (r : Result (Unit {0}) IoFault) → IsTrue s.known → s.bytes ≡ [] → is_err r ≡ false → PutsText s t text r → t.bytes ≡ text
-collected s t text (Ok x) known none e puts = puts.whole known ∙ ap (λ l. l ++ text) none
-collected s t text (Err x) known none e puts = absurd cc
+-- what an output in memory has collected
+pub collected : {X : Type 0} (s t : SinkState) (text : List ℕ) (r : Result X IoFault) (x : X) → r ≡ Ok x → IsTrue s.known → s.bytes ≡ [] → PutsText s t text r → t.bytes ≡ text
+collected s t text (Ok y) x e known none puts = puts.whole known ∙ ap (λ l. l ++ text) none
+collected s t text (Err fault) x e known none puts = absurd cc
 
--- each of these numbers is a byte
-abbrev IsBytes : List ℕ → Type 0
-IsBytes xs = (i : ℕ) → slice_index xs i < 256
+-- ---- the texts of an object
 
-byte_more : (x : ℕ) (xs : List ℕ) → x < 256 → IsBytes xs → IsBytes (x ∷ xs)
-byte_more x xs small more zero = small
-byte_more x xs small more (suc i) = more i
+pub hex_means : (text code : List ℕ) → text ≡ hex_text code → length code ≤ 65536 → ((i : ℕ) → slice_index code i < 256) → IsHexText text code
+hex_means text code is fits bytes = subst (λ (x : List ℕ). IsHexText x code) (sym is) (hex_text-means code fits bytes)
 
-body_bytes : (values : List ℕ) → All (λ v. v < 256) values → IsBytes (code_of_instrs (map write values ++ Ret FromCall ∷ []))
-body_bytes [] all = byte_more 0x22 [] (lit< tt) (λ i. lit< tt)
-body_bytes (v ∷ values) all =
-    let rest = code_of_instrs (map write values ++ Ret FromCall ∷ []) in
-    byte_more 0x75 (0x90 ∷ v ∷ rest) (lit< tt)
-    (byte_more 0x90 (v ∷ rest) (lit< tt)
-    (byte_more v rest (All-head (λ x. x < 256) v values all) (body_bytes values (All-tail (λ x. x < 256) v values all))))
+pub map_means : (text labels : List ℕ) → text ≡ map_text labels → MayStand labels → IsMapText text labels
+map_means text labels is may = subst (λ (x : List ℕ). IsMapText x labels) (sym is) (map_text-means labels may.few may.within may.apart)
 
-code_bytes : (values : List ℕ) → All (λ v. v < 256) values → IsBytes (code values)
-code_bytes values all =
-    let r₈ : List ℕ = 0x00 ∷ code_of_instrs (map write values ++ Ret FromCall ∷ []) in
-    let r₇ : List ℕ = 0xFE ∷ r₈ in
-    let r₆ : List ℕ = 0x80 ∷ r₇ in
-    let r₅ : List ℕ = 0x08 ∷ r₆ in
-    let r₄ : List ℕ = 0x00 ∷ r₅ in
-    let r₃ : List ℕ = 0x12 ∷ r₄ in
-    let r₂ : List ℕ = 0x7F ∷ r₃ in
-    let r₁ : List ℕ = 0x81 ∷ r₂ in
-    byte_more 0x75 r₁ (lit< tt) (byte_more 0x81 r₂ (lit< tt) (byte_more 0x7F r₃ (lit< tt)
-    (byte_more 0x12 r₄ (lit< tt) (byte_more 0x00 r₅ (lit< tt) (byte_more 0x08 r₆ (lit< tt)
-    (byte_more 0x80 r₇ (lit< tt) (byte_more 0xFE r₈ (lit< tt) (byte_more 0x00 (code_of_instrs (map write values ++ Ret FromCall ∷ [])) (lit< tt) (body_bytes values all)))))))))
+-- ---- the object
 
--- the text of the one label
-labels_mean : IsMapText (map_text labels) labels
-labels_mean = map_text-means labels (lit≤ tt) small (λ i j before within. absurd (omega arith))
-  where
-    small : All (λ address. address < 65536) labels
-    small = grind arith
+pub code_fits : (p : TypedProgram Label) (code labels : List ℕ) → IsChainOf p code labels → length code ≤ 65536
+code_fits p code labels c =
+    let object = c.chain.object in
+    let size = length-code_of c.values.asm c.values.layout.forms in
+    let same : length code ≡ length c.values.object.code = ap length c.code_is in
+    let made = ap length object.code in
+    omega (arith, size, same, made, object.layout.fits)
 
-pub compiled : (source text : List ℕ) (plain : Plain) (marks : Costs) → IsPlainProgram source plain → text ≡ annotated source (points plain.body) marks → erased text ≡ source → numbers text ≡ flat_map (λ (point : Point). numbers_of (costs plain.values) point.piece) (points plain.body) → IsCompiled source (code plain.values) labels text
-compiled source text plain marks p annotations erases said =
-    let holds = headline_holds (code plain.values) plain.values (stands plain.values (few source plain p)) text (said ∙ ap (λ c. 4 ∷ c ∷ []) (cost_of_body plain.values)) in
-    let kept = keeps_to_labelled (object (code plain.values) labels) cycles_of_run (cost_at text) plain ⊥ source p.tree (record { is_tree = p.is_tree; plain_tree = p.plain_tree }) holds in
-    let has = kept.labelled in
+pub labels_stand : (p : TypedProgram Label) (code labels : List ℕ) → IsChainOf p code labels → MayStand labels
+labels_stand p code labels c =
+    let object = c.chain.object in
+    subst MayStand (sym (c.labels_are ∙ object.labels)) (may_stand c.values.asm c.values.layout c.chain.asm.selected object.layout)
+
+-- ---- the cost variable of the annotated source holds the costs of the labels that were passed
+
+module _ (text : List ℕ) (costs : Costs) (said : numbers text ≡ costs.start ∷ costs.labels) where
+  start_same : start_cost_in text ≡ costs.start
+  start_same = ap (λ (ns : List ℕ). unwrap_or (slice_get ns 0) 0) said
+
+  label_same : (label : ℕ) → label_cost_in text label ≡ slice_index costs.labels label
+  label_same label =
+      let next : label + 1 ≡ suc label = omega arith in
+      ap (λ (ns : List ℕ). unwrap_or (slice_get ns (label + 1)) 0) said
+      ∙ ap (λ (i : ℕ). unwrap_or (slice_get (costs.start ∷ costs.labels) i) 0) next
+      ∙ unwrap_or-slice_get costs.labels label 0
+
+  event_same : (event : Event) → annotate.event_cost text event ≡ event_cost (slice_index costs.labels) event
+  event_same (Shown.Label label) = label_same label.0
+  event_same (Shown.Read port byte) = refl
+  event_same (Shown.Write port byte) = refl
+
+  sum_same : (events : List Event) → sum_by (annotate.event_cost text) events ≡ sum_by (event_cost (slice_index costs.labels)) events
+  sum_same [] = refl
+  sum_same (event ∷ events) =
+      let first = sum_by-cons (annotate.event_cost text) event events in
+      let second = sum_by-cons (event_cost (slice_index costs.labels)) event events in
+      let same = event_same event in
+      let others = sum_same events in
+      omega arith
+
+  cost_same : (events : List Event) → cost_at text events ≡ cost_of_events costs.start (slice_index costs.labels) events
+  cost_same events = ap₂ (λ m n. m + n) start_same (sum_same events)
+
+  keeps_same : {Fault : Type 0} (code labels script : List ℕ) (n : ℕ) (outcome : Outcome Fault) → KeepsTo (object code labels) cycles_of_run (cost_of_events costs.start (slice_index costs.labels)) script n outcome → KeepsTo (object code labels) cycles_of_run (cost_at text) script n outcome
+  keeps_same code labels script n (Stops es stop) h = subst (λ (c : ℕ). ArrivesWith (object code labels) cycles_of_run script n es c stop) (sym (cost_same es)) h
+  keeps_same code labels script n (Faults es fault) h = h
+
+  headline_same : {Fault : Type 0} (source : Source Fault) (code labels : List ℕ) → Headline source (object code labels) cycles_of_run (cost_of_events costs.start (slice_index costs.labels)) → Headline source (object code labels) cycles_of_run (cost_at text)
+  headline_same source code labels h script is n = keeps_same code labels script n (source script n) (h script is n)
+
+-- ---- the texts
+
+pub texts_made : (source hex map text code labels : List ℕ) (points : List Point) (costs : Costs) → IsBuilt source points code labels costs → IsHexText hex code → IsMapText map labels → IsAnnotatedText source points costs text → AreCompiled source hex map text
+texts_made source hex map text code labels points costs b is_code are_labels a =
     record {
-      tree = p.tree;
-      is_tree = p.is_tree;
-      laid_out = has.laid;
-      sound = record { names = p.sound.names; typed = has.typed; typing = has.is_typed; layout = has.is_laid };
-      program = kept.program;
-      labelled = has.is_labelled;
-      headline = kept.headline;
-      costs = marks;
-      annotations = annotations ∙ ap (λ (ps : List Point). annotated source ps marks) (sym kept.annotated);
-      erases = erases;
-      plain = plain;
-      plain_tree = p.plain_tree;
-    }
-
--- the texts that are made of a program are those of what it is compiled to
-pub texts_made : (source : List ℕ) (plain : Plain) (hex map text object addresses labelled : List ℕ) (pts : List Point) (start : ℕ) → IsPlainProgram source plain → object ≡ code plain.values → addresses ≡ labels → start ≡ (costs plain.values).start → labelled ≡ (costs plain.values).labels → pts ≡ points plain.body → hex ≡ hex_text object → map ≡ map_text addresses → text ≡ annotated source pts (record { start = start; labels = labelled }) → (HasNoMarker source → erased (annotated source pts (record { start = start; labels = labelled })) ≡ source) → (HasNoMarker source → numbers (annotated source pts (record { start = start; labels = labelled })) ≡ flat_map (λ (point : Point). numbers_of (record { start = start; labels = labelled }) point.piece) pts) → AreCompiled source hex map text
-texts_made source plain hex map text object addresses labelled pts start p object_is addresses_are start_is labelled_are points_are hex_is map_is text_is erases counts =
-    let none = p.is_tree.tokens.unmarked in
-    let values = plain.values in
-    let said : numbers text ≡ flat_map (λ (point : Point). numbers_of (costs values) point.piece) (points plain.body) =
-    ap numbers text_is ∙ (counts none
-    ∙ (ap (λ (ps : List Point). flat_map (λ (point : Point). numbers_of (record { start = start; labels = labelled }) point.piece) ps) points_are
-    ∙ (ap (λ (s : ℕ). flat_map (λ (point : Point). numbers_of (record { start = s; labels = labelled }) point.piece) (points plain.body)) start_is
-    ∙ ap (λ (ls : List ℕ). flat_map (λ (point : Point). numbers_of (record { start = (costs values).start; labels = ls }) point.piece) (points plain.body)) labelled_are))) in
-    record {
-      code = code values;
+      code = code;
       labels = labels;
-      is_code = subst (λ (x : List ℕ). IsHexText x (code values)) (sym (hex_is ∙ ap hex_text object_is)) (hex_text-means (code values) (code_fits values (few source plain p)) (code_bytes values (are_bytes source plain p)));
-      are_labels = subst (λ (x : List ℕ). IsMapText x labels) (sym (map_is ∙ ap map_text addresses_are)) labels_mean;
-      compiled =
-          compiled source text plain (record { start = start; labels = labelled }) p
-          (text_is ∙ ap (λ (ps : List Point). annotated source ps (record { start = start; labels = labelled })) points_are) (ap erased text_is ∙ erases none) said;
+      is_code = is_code;
+      are_labels = are_labels;
+      compiled = record {
+        program = b.program;
+        is_program = b.is_program;
+        headline = headline_same text costs a.numbers_are _ code labels b.headline;
+        costs = costs;
+        costs_are = b.costs_are;
+        annotations = subst (λ (ps : List Point). text ≡ annotated_text source ps costs) b.points_are a.annotations;
+        erases = a.erases;
+        chain = b.chain;
+      };
     }

@@ -1,12 +1,6 @@
 mod WordLists
-mod PlainExamples
-mod PlainWrites
-mod PlainTrees
 mod OneTree
-mod PortCosts
-mod PortCode
-mod PortBounds
-mod Promise
+mod Objects
 mod Compiled
 mod Answering
 mod FilesRead
@@ -18,4 +12,5 @@ mod RunEnds
 mod RunOnce
 mod ListOnce
 mod Once
+mod Complete
 mod ListSteps

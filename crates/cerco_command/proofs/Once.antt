@@ -23,10 +23,10 @@ use Rattle.cerco_command.specs.Running.{RunTexts, RunsTo, PrintsRun, AreTextsOf,
 use Rattle.cerco_command.specs.Top.{Means, UsageMeans}
 use Rattle.cerco_command.specs.Words.{BuildFiles, RunRequest, Request, Builds, Runs, Lists}
 use Rattle.cerco_command.specs.declared.status.Status.{Status}
-use Rattle.cerco_command.specs.declared.status.Status.TheVariants.{Done, NoFile, Usage, Refused, FileFault, BadInput, Reserved, NoMemory}
+use Rattle.cerco_command.specs.declared.status.Status.TheVariants.{Done, NoFile, Usage, Refused, NoRoom, FileFault, BadInput, Reserved, NoMemory}
 use Rattle.cerco_command.proofs.RunOnce.{one_stop}
 use Rattle.cerco_command.proofs.ListOnce.{one_listing}
-use Rattle.cerco_command.proofs.OneTree.{compiled_or_refused, one_refusal}
+use Rattle.cerco_command.proofs.OneTree.{program_or_reason, one_refusal}
 
 -- a text gives one code, or has one first bad line
 one_code : (text c d : List ℕ) → IsHexText text c → IsHexText text d → c ≡ d
@@ -249,7 +249,8 @@ accepted_or_refused files s t u text line p says q =
     let here = p.read in
     let here' = q.read in
     let same : text ≡ p.source = cc in
-    compiled_or_refused p.source p.texts.code p.texts.labels p.annotated line p.texts.compiled (subst (λ (x : List ℕ). SaysRefused x line) same says)
+    let h = subst (λ (x : List ℕ). SaysRefused x line) same says in
+    program_or_reason p.source p.texts.compiled.program h.0 p.texts.compiled.is_program h.1
 
 -- and it is refused in one way
 refused_once : (files : BuildFiles) (s t u : FilesState) (text other x y : List ℕ) → SaysRefused text x → SaysRefused other y → Refuses files s t text → Refuses files s u other → x ≡ y
@@ -270,12 +271,16 @@ build_once files s t u Refused NoFile x y known fa fb p q = let there = (p.2 kno
 build_once files s t u NoFile Refused x y known fa fb p q = let none = (p.1 known).0 in let there = (q.2 known).read in absurd cc
 build_once files s t u Done Refused x y known fa fb p q = absurd (accepted_or_refused files s t u q.0 y (p.1 known) q.1 (q.2 known))
 build_once files s t u Refused Done x y known fa fb p q = absurd (accepted_or_refused files s u t p.0 x (q.1 known) p.1 (p.2 known))
+build_once files s t u NoRoom b x y known fa fb p q = absurd fa
 build_once files s t u FileFault b x y known fa fb p q = absurd fa
 build_once files s t u NoMemory b x y known fa fb p q = absurd fa
+build_once files s t u Done NoRoom x y known fa fb p q = absurd fb
 build_once files s t u Done FileFault x y known fa fb p q = absurd fb
 build_once files s t u Done NoMemory x y known fa fb p q = absurd fb
+build_once files s t u NoFile NoRoom x y known fa fb p q = absurd fb
 build_once files s t u NoFile FileFault x y known fa fb p q = absurd fb
 build_once files s t u NoFile NoMemory x y known fa fb p q = absurd fb
+build_once files s t u Refused NoRoom x y known fa fb p q = absurd fb
 build_once files s t u Refused FileFault x y known fa fb p q = absurd fb
 build_once files s t u Refused NoMemory x y known fa fb p q = absurd fb
 build_once files s t u Done b x y known fa fb p q = absurd q

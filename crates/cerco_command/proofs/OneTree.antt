@@ -19,9 +19,9 @@ use Rattle.clight_reader.specs.Reasons.{token_start, HasNoTree, HasReason}
 use Rattle.clight_grammar.proofs.Programs.{one_program}
 use Rattle.clight_grammar.proofs.OneFault as fault
 use Rattle.clight_nesting.proofs.OneNesting.{one_nesting, not_shallow}
-use Rattle.plain_programs.specs.PlainPrograms.{plain_program}
-use Rattle.cerco_command.specs.PlainPrograms.{IsOtherProgram}
-use Rattle.cerco_command.specs.Building.{IsCompiled, HasFirstReason, SaysRefused}
+use Rattle.cerco_base.specs.declared.events.Label.{Label}
+use Rattle.cerco_pipeline.specs.Programs.{IsProgramOf, HasFirstReason}
+use Rattle.cerco_command.specs.Building.{SaysRefused}
 use Rattle.cerco_command.specs.Refusals.{refused}
 
 abbrev with_parts : List (List ℕ) → List Item → Span → Program
@@ -96,18 +96,8 @@ one_first text a b (inr h) (inl g) = absurd (tree_or_reason text h.0 b h.1 g)
 
 -- ---- answers
 
-compiled_or_other : (text code labels annotated : List ℕ) → IsCompiled text code labels annotated → IsOtherProgram text → ⊥
-compiled_or_other text code labels annotated p q =
-    let some = p.plain_tree in
-    let none = ap plain_program (one_tree text p.tree q.tree p.is_tree q.is_tree) ∙ q.other in
-    cc
-
-pub compiled_or_refused : (text code labels annotated line : List ℕ) → IsCompiled text code labels annotated → SaysRefused text line → ⊥
-compiled_or_refused text code labels annotated line p (inl h) = sound_or_reason text p.tree p.laid_out h.0 p.is_tree p.sound h.1
-compiled_or_refused text code labels annotated line p (inr h) = compiled_or_other text code labels annotated p h.0
+pub program_or_reason : (text : List ℕ) (p : TypedProgram Label) (reason : Reason) → IsProgramOf text p → HasFirstReason text reason → ⊥
+program_or_reason text p reason is h = sound_or_reason text is.tree is.laid_out reason is.is_tree is.sound h
 
 pub one_refusal : (text a b : List ℕ) → SaysRefused text a → SaysRefused text b → a ≡ b
-one_refusal text a b (inl h) (inl g) = h.2 ∙ (ap refused (one_first text h.0 g.0 h.1 g.1) ∙ sym g.2)
-one_refusal text a b (inl h) (inr g) = absurd (sound_or_reason text g.0.tree g.0.laid_out h.0 g.0.is_tree g.0.sound h.1)
-one_refusal text a b (inr h) (inl g) = absurd (sound_or_reason text h.0.tree h.0.laid_out g.0 h.0.is_tree h.0.sound g.1)
-one_refusal text a b (inr h) (inr g) = h.1 ∙ sym g.1
+one_refusal text a b h g = h.2 ∙ (ap refused (one_first text h.0 g.0 h.1 g.1) ∙ sym g.2)

@@ -1,52 +1,45 @@
 -- What `build` promises. (The compiler's own; the headline is the correctness of a cost annotating compiler as in CerCo,
 -- deliverable 2.1.)
 use Rattle.std.specs.Prelude.{◌≡◌, ℕ, List, [], ◌∷◌, Some, None, IsTrue, ◌⊎◌, false, bytes_eq}
-use Rattle.cerco_base.specs.Outside.IoFaults.{Rose}
 use Rattle.cerco_base.specs.declared.events.Label.{Label}
+use Rattle.cerco_base.specs.declared.reasons.Reason.{Reason}
+use Rattle.cerco_base.specs.Outside.IoFaults.{Rose}
 use Rattle.cerco_base.specs.Outside.IoStates.{FilesState, SameFiles}
 use Rattle.cerco_traces.specs.Headline.{Headline}
-use Rattle.clight_syntax.specs.Annotations.{Costs}
-use Rattle.clight_syntax.specs.Annotations.{annotated as annotated_text}
-use Rattle.annotate.specs.Erasure.{erased}
-use Rattle.clight_syntax.specs.Labelling.{points_of, IsLabelled}
-use Rattle.clight_tokens.specs.SourceTrees.{IsSourceTree}
-use Rattle.clight_source.specs.Trees.{Program}
-use Rattle.clight_syntax.specs.TypedTrees.{TypedProgram}
-use Rattle.annotate.specs.Numbers.{cost_at}
+use Rattle.sim51.specs.Runs.{object, cycles_of_run}
 use Rattle.object_hex.specs.HexMeaning.{IsHexText}
 use Rattle.object_hex.specs.MapMeaning.{IsMapText}
-use Rattle.sim51.specs.Runs.{object, cycles_of_run}
-use Rattle.cerco_command.specs.Words.{BuildFiles}
-use Rattle.cerco_base.specs.declared.reasons.Reason.{Reason}
-use Rattle.clight_reader.specs.Reasons.{HasReason}
-use Rattle.clight_check.specs.Soundness.{IsSound, HasUnsoundness}
+use Rattle.clight_syntax.specs.Annotations.{Costs}
+use Rattle.clight_syntax.specs.Annotations.{annotated as annotated_text}
+use Rattle.clight_syntax.specs.Labelling.{points_of}
+use Rattle.clight_syntax.specs.TypedTrees.{TypedProgram}
 use Rattle.clight_meaning.specs.Meaning.{source as meaning}
-use Rattle.plain_programs.specs.PlainPrograms.{Plain, plain_program}
-use Rattle.cerco_command.specs.PlainPrograms.{IsOtherProgram}
+use Rattle.annotate.specs.Erasure.{erased}
+use Rattle.annotate.specs.Numbers.{cost_at}
+use Rattle.cerco_pipeline.specs.Programs.{IsProgramOf, HasFirstReason, HasRoomByText}
+use Rattle.cerco_pipeline.specs.Built.{AreCostsOf, IsChainOf, LacksRoom}
+use Rattle.cerco_command.specs.Words.{BuildFiles}
 use Rattle.cerco_command.specs.Refusals.{refused}
 use Rattle.cerco_command.specs.Answers.{NamedText, ArePartlyWritten}
-use Rattle.cerco_command.specs.Messages.{no_file, unsupported, file_fault}
+use Rattle.cerco_command.specs.Messages.{no_file, file_fault}
 use Rattle.cerco_command.specs.declared.status.Status.{Status}
-use Rattle.cerco_command.specs.declared.status.Status.TheVariants.{Done, NoFile, Refused, FileFault, NoMemory}
+use Rattle.cerco_command.specs.declared.status.Status.TheVariants.{Done, NoFile, Refused, NoRoom, FileFault, NoMemory}
 
 -- The headline. The source is a sound program, and the object does what the program means with its cost labels: for every port script
 -- and number n, after exactly as many cycles as the cost variable of the annotated source holds at its n-th stop, it has made exactly
 -- the labels, port readings and port writings of the meaning, and has ended exactly if the meaning has; where the meaning is a fault,
--- it has at some time made those before it. The annotated source is the source with the annotations of the labels at their places;
--- without them it is the source. So far the program is a plain one.
+-- it has at some time made those before it. The annotated source is the source with the annotations of the labels at their places, in
+-- which stand the costs of the start and of each label in the object; without them it is the source. The object is the end of a chain
+-- of values that the passes make, each from those before it.
 pub record IsCompiled (source code labels annotated : List ℕ) : Type 0 where
-  pub tree : Program
-  pub is_tree : IsSourceTree source tree
-  pub laid_out : TypedProgram (Unit {0})
-  pub sound : IsSound tree laid_out
   pub program : TypedProgram Label
-  pub labelled : IsLabelled laid_out program
+  pub is_program : IsProgramOf source program
   pub headline : Headline (meaning program) (object code labels) cycles_of_run (cost_at annotated)
   pub costs : Costs
+  pub costs_are : AreCostsOf code labels costs
   pub annotations : annotated ≡ annotated_text source (points_of program) costs
   pub erases : erased annotated ≡ source
-  pub plain : Plain
-  pub plain_tree : plain_program tree ≡ Some plain
+  pub chain : IsChainOf program code labels
 
 -- The texts of an object to which the source is compiled: its code, the addresses of its labels, and the annotated source.
 pub record AreCompiled (source hex map annotated : List ℕ) : Type 0 where
@@ -83,14 +76,19 @@ pub record PartlyBuilds (files : BuildFiles) (s t : FilesState) : Type 0 where
   pub texts : AreCompiled source hex map annotated
   pub written : ArePartlyWritten (outputs files hex map annotated) s t
 
--- the first of the reasons 1 to 11 that a text has: why it has no syntax tree, or why its tree is unsound
-abbrev pub HasFirstReason : List ℕ → Reason → Type 0
-HasFirstReason text reason = HasReason text reason ⊎ HasUnsoundness text reason
-
--- The line names the first reason of the source; or it has none, and isn't compiled yet.
+-- The line names the first reason of the source.
 abbrev pub SaysRefused : List ℕ → List ℕ → Type 0
-SaysRefused source line =
-    ((reason : Reason) × HasFirstReason source reason × (line ≡ refused reason)) ⊎ (IsOtherProgram source × (line ≡ unsupported))
+SaysRefused source line = (reason : Reason) × HasFirstReason source reason × (line ≡ refused reason)
+
+-- The source is a sound program that is too big for the machine: the line names how many cells, or how much code, a program of Cminor
+-- with its traces comes to by the passes. By the source's own bounds there may not be room for it.
+pub record SaysNoRoom (source line : List ℕ) : Type 0 where
+  pub program : TypedProgram Label
+  pub is_program : IsProgramOf source program
+  pub reason : Reason
+  pub lacks : LacksRoom program reason
+  pub line_is : line ≡ refused reason
+  pub not_by_text : HasRoomByText source → ⊥
 
 -- the source is what stands under its name, and no file has changed
 pub record Refuses (files : BuildFiles) (s t : FilesState) (source : List ℕ) : Type 0 where
@@ -112,6 +110,7 @@ abbrev pub BuildMeans : BuildFiles → FilesState → FilesState → Status → 
 BuildMeans files s t Done line = (line ≡ []) × (IsTrue s.known → Builds files s t)
 BuildMeans files s t NoFile line = (line ≡ no_file files.source) × (IsTrue s.known → (s.file files.source ≡ None) × SameFiles s t)
 BuildMeans files s t Refused line = (source : List ℕ) × SaysRefused source line × (IsTrue s.known → Refuses files s t source)
+BuildMeans files s t NoRoom line = (source : List ℕ) × SaysNoRoom source line × (IsTrue s.known → Refuses files s t source)
 BuildMeans files s t FileFault line = (line ≡ file_fault t.last_fault) × Rose s.faults t.faults × Faults files s t
 BuildMeans files s t NoMemory line = (line ≡ []) × (IsTrue s.known → SameFiles s t ⊎ PartlyBuilds files s t)
 BuildMeans files s t status line = ⊥

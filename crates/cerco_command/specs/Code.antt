@@ -1,3 +1,1 @@
 pub mod Stages
-pub mod PlainViews
-pub mod PortObjects

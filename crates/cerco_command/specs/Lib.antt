@@ -2,7 +2,6 @@ pub mod Words
 pub mod Status
 pub mod Messages
 pub mod Refusals
-pub mod PlainPrograms
 pub mod Answers
 pub mod Inputs
 pub mod Building
@@ -10,4 +9,5 @@ pub mod Running
 pub mod Disassembly
 pub mod Top
 pub mod Once
+pub mod Complete
 pub mod Code

@@ -20,10 +20,6 @@ line_about word about = word ++ (about ++ codes "\n")
 abbrev pub usage : List ℕ
 usage = codes "usage\n"
 
--- a source that isn't compiled yet
-abbrev pub unsupported : List ℕ
-unsupported = codes "refused 0 unsupported\n"
-
 -- a file isn't there
 abbrev pub no_file : List ℕ → List ℕ
 no_file name = line_about (codes "no file ") name

@@ -8,15 +8,17 @@ use Rattle.cerco_command.specs.Running.{RunsTo}
 use Rattle.cerco_command.specs.declared.status.Status.{Status}
 use Rattle.cerco_command.specs.declared.status.Status.TheVariants as Is
 
--- an answer whose cause isn't a fault or out of memory
+-- An answer that the files determine: its cause isn't a fault, nor out of memory, nor what the passes make of a sound source, of which more
+-- than one thing is allowed.
 abbrev pub IsFirm : Status → Type 0
 IsFirm Is.FileFault = ⊥
 IsFirm Is.OutFault = ⊥
 IsFirm Is.NoMemory = ⊥
+IsFirm Is.NoRoom = ⊥
 IsFirm status = Unit {0}
 
--- Over files whose contents are known, one status at most is meant, with one text, but for faults and out of memory: the
--- causes of different answers exclude each other.
+-- Over files whose contents are known, one firm status at most is meant, with one text: the causes of different answers
+-- exclude each other.
 abbrev pub MeansOnce : (FilesState → FilesState → Status → List ℕ → Type 0) → Type 0
 MeansOnce Means =
     (s t u : FilesState) (a b : Status) (x y : List ℕ) → IsTrue s.known → IsFirm a → IsFirm b → Means s t a x → Means s u b y → (a ≡ b) × (x ≡ y)

@@ -7,6 +7,8 @@ use Rattle.cerco_base.specs.declared.reasons.TypeKind.TheVariants as t
 use Rattle.cerco_base.specs.declared.reasons.Reason.{Reason}
 use Rattle.cerco_base.specs.declared.reasons.Reason.TheVariants as r
 use Rattle.cerco_command.specs.Messages.{line_about}
+use Rattle.cerco_command.specs.declared.status.Status.{Status}
+use Rattle.cerco_command.specs.declared.status.Status.TheVariants as Is
 
 abbrev pub name_word : NameKind → List ℕ
 name_word n.Reserved = codes "reserved"
@@ -53,3 +55,9 @@ refused (r.StackFull depth) = line_about (codes "refused 10 stack ") (decimal de
 refused (r.DataFull total) = line_about (codes "refused 11 data ") (decimal total)
 refused (r.CellsFull need) = line_about (codes "refused 12 cells ") (decimal need)
 refused (r.CodeFull len) = line_about (codes "refused 13 code ") (decimal len)
+
+-- the status of a refusal: that of a program that is too big is its own, since no source determines it
+abbrev pub status_of_refusal : Reason → Status
+status_of_refusal (r.CellsFull need) = Is.NoRoom
+status_of_refusal (r.CodeFull len) = Is.NoRoom
+status_of_refusal reason = Is.Refused

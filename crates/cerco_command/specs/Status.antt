@@ -4,13 +4,14 @@ use Rattle.std.specs.Prelude.{ℕ}
 use Rattle.cerco_base.specs.declared.outside.faults.IoFault.{IoFault}
 use Rattle.cerco_base.specs.declared.outside.faults.IoFault.TheVariants as Io
 use Rattle.cerco_command.specs.declared.status.Status.{Status}
-use Rattle.cerco_command.specs.declared.status.Status.TheVariants.{Done, NoFile, Usage, Refused, FileFault, OutFault, BadInput, Reserved, NoMemory}
+use Rattle.cerco_command.specs.declared.status.Status.TheVariants.{Done, NoFile, Usage, Refused, NoRoom, FileFault, OutFault, BadInput, Reserved, NoMemory}
 
 abbrev pub code_of : Status → ℕ
 code_of Done = 0
 code_of NoFile = 1
 code_of Usage = 2
 code_of Refused = 3
+code_of NoRoom = 3
 code_of FileFault = 4
 code_of OutFault = 5
 code_of BadInput = 6

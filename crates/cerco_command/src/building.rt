@@ -1,31 +1,20 @@
 //! The command `build`.
-ghost use Rattle.std.specs.Prelude.{◌≡◌, ◌∷◌, [], IfOk, IfErr, option_map, string_bytes};
+ghost use Rattle.std.specs.Prelude.{◌∷◌, [], ◌≤◌, length, IfOk, string_bytes};
 ghost use Rattle.cerco_base.specs.Outside.InMemory.{sound_sink_state};
-ghost use Rattle.clight_syntax.specs.Annotations.{Costs};
-ghost use Rattle.clight_syntax.specs.Annotations.{annotated as annotated_text};
-ghost use Rattle.clight_reader.specs.Reasons.{IsNotRead};
-ghost use Rattle.clight_tokens.specs.SourceTrees.{IsSourceTree};
-ghost use Rattle.clight_source.specs.Code.Views.{program_of};
-ghost use Rattle.plain_programs.specs.PlainPrograms.{points};
-ghost use Rattle.cerco_command.specs.PlainPrograms.{IsPlainProgram};
-ghost use Rattle.cerco_command.specs.Code.PlainViews.{plain_of};
+ghost use Rattle.object_hex.specs.HexMeaning.{IsHexText};
+ghost use Rattle.object_hex.specs.MapMeaning.{IsMapText};
 ghost use Rattle.cerco_command.specs.Words.{files_of, HaveDifferentNames};
 ghost use Rattle.cerco_command.specs.Building.{AreCompiled, outputs, BuildMeans};
-ghost use Rattle.cerco_command.specs.Code.Stages.{IsProgram, IsNoProgram, WritesAll, Finishes, BuildsOn};
+ghost use Rattle.cerco_command.specs.Code.Stages.{IsBuiltFrom, IsAnnotatedText, costs_in, MayStand, WritesAll, Finishes, BuildsOn};
 
 use crate::inputs::read_input;
-use crate::plain_program::{PlainProgram, plain_program};
-use crate::port_object::{PortObject, compile};
 use crate::refusal::refused;
-use crate::reply::{Reply, file_fault, silent, unsupported};
+use crate::reply::{Reply, file_fault, silent};
 use crate::status::Status;
 use crate::words::BuildNames;
 use annotate::annotate;
-use cerco_base::{Fault, Files, IoFault, Label, NoMemory, SoundSink, write_file};
-use clight_check::check;
-use clight_reader::parse;
-use clight_syntax::{Piece, Point, Points, Program};
-use clight_tokens::tokens;
+use cerco_base::{Fault, Files, IoFault, NoMemory, SoundSink, write_file};
+use cerco_pipeline::{Built, build as compile};
 use object_hex::{write_hex, write_map};
 use std::alloc::Global;
 
@@ -40,43 +29,51 @@ pub struct Texts {
     annotated: SoundSink,
 }
 
-// The annotations of a program of port writes whose body begins at an offset.
-fn make_points(alloc: Global, body: u32) -> Result<Points, NoMemory>
-    ensures { IfOk result (λ made. made ≡ points body) }
+// The text of a code.
+fn hex_text(alloc: Global, code: &[u8]) -> Result<SoundSink, NoMemory>
+    requires { length code.now ≤ 65536 }
+    ensures { IfOk result (λ text. IsHexText (sound_sink_state text).bytes code.now) }
 {
-    let mut points = Points::new(alloc);
-    points.push(Point {
-        at: 0,
-        piece: Piece::Start,
-    })?;
-    points.push(Point {
-        at: body,
-        piece: Piece::After(Label(0)),
-    })?;
-    Ok(points)
+    let mut text = SoundSink::new(alloc);
+    match write_hex(code, &mut text) {
+        Ok(()) => Ok(text),
+        Err(_) => Err(NoMemory),
+    }
 }
 
-// The outputs of a program of port writes.
-fn make_texts(alloc: Global, source: &[u8], program: &PlainProgram) -> Result<Texts, NoMemory>
-    requires { IsPlainProgram source.now (plain_of program.now) }
+// The text of the addresses of labels.
+fn map_text(alloc: Global, labels: &[u16]) -> Result<SoundSink, NoMemory>
+    requires { MayStand labels.now }
+    ensures { IfOk result (λ text. IsMapText (sound_sink_state text).bytes labels.now) }
+{
+    let mut text = SoundSink::new(alloc);
+    match write_map(labels, &mut text) {
+        Ok(()) => Ok(text),
+        Err(_) => Err(NoMemory),
+    }
+}
+
+// The annotated source.
+fn annotated_text(alloc: Global, source: &[u8], built: &Built) -> Result<SoundSink, NoMemory>
+    requires { IsBuiltFrom source.now built.now }
+    ensures { IfOk result (λ text. IsAnnotatedText source.now built.now.points (costs_in built.now) (sound_sink_state text).bytes) }
+{
+    let mut text = SoundSink::new(alloc);
+    match annotate(source, &built.points, built.start, &built.costs, &mut text) {
+        Ok(()) => Ok(text),
+        Err(_) => Err(NoMemory),
+    }
+}
+
+// The texts of what a source is compiled to.
+fn make_texts(alloc: Global, source: &[u8], built: &Built) -> Result<Texts, NoMemory>
+    requires { IsBuiltFrom source.now built.now }
     ensures { IfOk result (λ made. AreCompiled source.now
         (sound_sink_state made.hex).bytes (sound_sink_state made.map).bytes (sound_sink_state made.annotated).bytes) }
 {
-    let object = compile(alloc, &program.writes)?;
-    let mut hex = SoundSink::new(alloc);
-    if write_hex(object.code.as_slice(), &mut hex).is_err() {
-        return Err(NoMemory);
-    }
-    let mut map = SoundSink::new(alloc);
-    if write_map(object.labels.as_slice(), &mut map).is_err() {
-        return Err(NoMemory);
-    }
-    let mut annotated = SoundSink::new(alloc);
-    let points = make_points(alloc, program.body)?;
-    let costs = [object.main_cost];
-    if annotate(source, &points, object.start_cost, &costs, &mut annotated).is_err() {
-        return Err(NoMemory);
-    }
+    let hex = hex_text(alloc, built.code.as_slice())?;
+    let map = map_text(alloc, built.labels.as_slice())?;
+    let annotated = annotated_text(alloc, source, built)?;
     Ok(Texts {
         hex,
         map,
@@ -126,38 +123,18 @@ fn finish<F: Files>(alloc: Global, files: &mut F, names: &BuildNames, texts: &Te
     }
 }
 
-// The syntax tree of a source, or the first reason why it has none.
-fn read_tree(alloc: Global, source: &[u8]) -> Result<Program, Fault>
-    ensures tree { IfOk result (λ tree. IsSourceTree source.now (program_of tree)) }
-    ensures fault { IfErr result (IsNotRead source.now) }
-{
-    let list = tokens(alloc, source)?;
-    parse(alloc, &list)
-}
-
-// The program of port writes that a source is, `None` where it is sound and no such program; or the first reason why it isn't sound.
-fn read_program(alloc: Global, source: &[u8]) -> Result<Option<PlainProgram>, Fault>
-    ensures program { IfOk result (λ found. IsProgram source.now (option_map plain_of found)) }
-    ensures fault { IfErr result (IsNoProgram source.now) }
-{
-    let tree = read_tree(alloc, source)?;
-    let program = plain_program(alloc, &tree)?;
-    check(alloc, tree)?;
-    Ok(program)
-}
-
-// Builds a program of port writes.
-fn build_program<F: Files>(
+// Writes what a source is compiled to.
+fn write_built<F: Files>(
     alloc: Global,
     names: &BuildNames,
     source: &[u8],
-    program: &PlainProgram,
+    built: &Built,
     files: &mut F,
 ) -> Reply
-    requires { IsPlainProgram source.now (plain_of program.now) }
+    requires { IsBuiltFrom source.now built.now }
     ensures { BuildsOn (files_of names.now) source.now (F.state files.old) (F.state files.new) result.status (string_bytes result.line) }
 {
-    match make_texts(alloc, source, program) {
+    match make_texts(alloc, source, built) {
         Ok(texts) => finish(alloc, files, names, &texts),
         Err(_) => silent(alloc, Status::NoMemory),
     }
@@ -167,17 +144,16 @@ fn build_program<F: Files>(
 fn build_on<F: Files>(alloc: Global, names: &BuildNames, source: &[u8], files: &mut F) -> Reply
     ensures { BuildsOn (files_of names.now) source.now (F.state files.old) (F.state files.new) result.status (string_bytes result.line) }
 {
-    match read_program(alloc, source) {
-        Ok(Some(program)) => build_program(alloc, names, source, &program, files),
-        Ok(None) => unsupported(alloc),
+    match compile(alloc, source) {
+        Ok(built) => write_built(alloc, names, source, &built, files),
         Err(Fault::Refused(reason)) => refused(alloc, reason),
         Err(Fault::OutOfMemory) => silent(alloc, Status::NoMemory),
     }
 }
 
-/// Compiles a source of at most 65,535 bytes, and writes the object, its labels and the annotated source. A source is refused
-/// for the first reason why it has no syntax tree or its tree isn't sound, and so far also where it does more than write numbers to
-/// port 1.
+/// Compiles a source of at most 65,535 bytes, and writes the object, its labels and the annotated source, in this order. A source is
+/// refused for the first reason why it has no syntax tree or its tree isn't sound, or since its program needs more cells or more code
+/// than the machine has. No file is created then.
 pub fn build<F: Files>(alloc: Global, names: &BuildNames, files: &mut F) -> Reply
     requires { HaveDifferentNames (files_of names.now) }
     ensures { BuildMeans (files_of names.now) (F.state files.old) (F.state files.new) result.status (string_bytes result.line) }

@@ -7,13 +7,12 @@ ghost use Rattle.cerco_command.specs.Words.{request_in, request_of, IsWellFormed
 ghost use Rattle.cerco_command.specs.Answers.{Answers, EndsWith};
 ghost use Rattle.cerco_command.specs.Top.{Means};
 ghost use Rattle.cerco_command.specs.Once.{MeansOnce};
+ghost use Rattle.cerco_command.specs.Complete.{BuildsAll};
 
 pub mod building;
 pub mod inputs;
 pub mod line;
 pub mod listing;
-pub mod plain_program;
-pub mod port_object;
 pub mod printing;
 pub mod refusal;
 pub mod reply;
@@ -63,6 +62,8 @@ pub fn cerco<F: Files, O: Sink>(alloc: Global, words: &[String], files: &mut F, 
     ensures ends { EndsWith (Means (request_of (map string_bytes words.now)) (F.state files.old) (F.state files.new)) (O.state out.old) (O.state out.new) result }
     // the files determine what is meant, but for faults and out of memory
     ensures once { MeansOnce (Means (request_of (map string_bytes words.now))) }
+    // each source whose own bounds say that there is room is built, but for faults and out of memory
+    ensures complete { BuildsAll (request_of (map string_bytes words.now)) (F.state files.old) (F.state files.new) (O.state out.old) (O.state out.new) result }
 {
     carry_out(alloc, words, files, out).code()
 }

@@ -47,17 +47,28 @@ fn type_word(kind: TypeKind) -> &'static str
     }
 }
 
-// A reason with a number.
-fn with_number(alloc: Global, word: &str, number: u32) -> Reply
-    ensures { Replies Is.Refused (line_about word.now (decimal number)) result.status (string_bytes result.line) }
+// A line with a number.
+fn with_number(alloc: Global, status: Status, word: &str, number: u32) -> Reply
+    ensures { Replies status (line_about word.now (decimal number)) result.status (string_bytes result.line) }
 {
     match format!(in alloc; "{word}{number}\n") {
-        Ok(line) => Reply {
-            status: Status::Refused,
-            line,
-        },
+        Ok(line) => Reply { status, line },
         Err(_) => silent(alloc, Status::NoMemory),
     }
+}
+
+// A reason that the bytes of the source determine, with its place or its count.
+fn unsound(alloc: Global, word: &str, number: u32) -> Reply
+    ensures { Replies Is.Refused (line_about word.now (decimal number)) result.status (string_bytes result.line) }
+{
+    with_number(alloc, Status::Refused, word, number)
+}
+
+// The program is too big for the machine.
+fn too_big(alloc: Global, word: &str, number: u32) -> Reply
+    ensures { Replies Is.NoRoom (line_about word.now (decimal number)) result.status (string_bytes result.line) }
+{
+    with_number(alloc, Status::NoRoom, word, number)
 }
 
 // A reason with its kind and its place.
@@ -89,21 +100,21 @@ fn too_long(alloc: Global) -> Reply
 /// The source is refused for this reason. The line has the reason's number, its word, and its place as a byte offset or the
 /// count that is too large.
 pub fn refused(alloc: Global, reason: Reason) -> Reply
-    ensures { Replies Is.Refused (s.refused reason) result.status (string_bytes result.line) }
+    ensures { Replies (s.status_of_refusal reason) (s.refused reason) result.status (string_bytes result.line) }
 {
     match reason {
         Reason::TooLong => too_long(alloc),
-        Reason::Byte { at } => with_number(alloc, "refused 2 byte at ", at),
-        Reason::Marker { at } => with_number(alloc, "refused 3 marker at ", at),
-        Reason::Token { at } => with_number(alloc, "refused 4 token at ", at),
-        Reason::Syntax { at } => with_number(alloc, "refused 5 syntax at ", at),
-        Reason::Nesting { at } => with_number(alloc, "refused 6 nesting at ", at),
+        Reason::Byte { at } => unsound(alloc, "refused 2 byte at ", at),
+        Reason::Marker { at } => unsound(alloc, "refused 3 marker at ", at),
+        Reason::Token { at } => unsound(alloc, "refused 4 token at ", at),
+        Reason::Syntax { at } => unsound(alloc, "refused 5 syntax at ", at),
+        Reason::Nesting { at } => unsound(alloc, "refused 6 nesting at ", at),
         Reason::Name { at, kind } => with_kind(alloc, "refused 7 name ", name_word(kind), at),
         Reason::Typing { at, kind } => with_kind(alloc, "refused 8 type ", type_word(kind), at),
-        Reason::Recursion { at } => with_number(alloc, "refused 9 recursion at ", at),
-        Reason::StackFull { depth } => with_number(alloc, "refused 10 stack ", depth),
-        Reason::DataFull { total } => with_number(alloc, "refused 11 data ", total),
-        Reason::CellsFull { need } => with_number(alloc, "refused 12 cells ", need),
-        Reason::CodeFull { len } => with_number(alloc, "refused 13 code ", len),
+        Reason::Recursion { at } => unsound(alloc, "refused 9 recursion at ", at),
+        Reason::StackFull { depth } => unsound(alloc, "refused 10 stack ", depth),
+        Reason::DataFull { total } => unsound(alloc, "refused 11 data ", total),
+        Reason::CellsFull { need } => too_big(alloc, "refused 12 cells ", need),
+        Reason::CodeFull { len } => too_big(alloc, "refused 13 code ", len),
     }
 }

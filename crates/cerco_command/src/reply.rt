@@ -1,7 +1,7 @@
 //! What the program answers: its status, and a line for it.
 ghost use Rattle.std.specs.Prelude.{◌≡◌, [], codes, decimal, string_bytes};
 ghost use Rattle.cerco_command.specs.Answers.{Says};
-ghost use Rattle.cerco_command.specs.Messages.{line_about, no_file, file_fault, bad_file, bad_hex, bad_map, usage, unsupported, kind_word};
+ghost use Rattle.cerco_command.specs.Messages.{line_about, no_file, file_fault, bad_file, bad_hex, bad_map, usage, kind_word};
 ghost use Rattle.cerco_command.specs.Code.Stages.{Replies};
 ghost use Rattle.cerco_command.specs.declared.status.Status.TheVariants as Is;
 
@@ -45,13 +45,6 @@ pub fn usage(alloc: Global) -> Reply
     ensures { Replies Is.Usage usage result.status (string_bytes result.line) }
 {
     with_line(alloc, Status::Usage, "usage", "")
-}
-
-/// The source is no program that is compiled.
-pub fn unsupported(alloc: Global) -> Reply
-    ensures { Replies Is.Refused unsupported result.status (string_bytes result.line) }
-{
-    with_line(alloc, Status::Refused, "refused 0 unsupported", "")
 }
 
 /// A file isn't there.

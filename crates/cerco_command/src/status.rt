@@ -12,8 +12,12 @@ pub enum Status {
     NoFile,
     /// 2: the words are no command.
     Usage,
-    /// 3: the source is no program that can be built.
+    /// 3: the source is no sound program, for a reason that its bytes determine.
     Refused,
+    /// 3 as well: the source is sound, and its program needs more cells or more code than the machine has. This is a status of its own
+    /// since the bytes of a source don't determine what its program needs: that depends on the code that the back end makes of it, of
+    /// which the contracts allow more than one. So it is no firm answer, as `Refused` is.
+    NoRoom,
     /// 4: a call of the files failed.
     FileFault,
     /// 5: a call of the output failed.
@@ -47,7 +51,7 @@ impl Status {
             Status::Done => 0,
             Status::NoFile => 1,
             Status::Usage => 2,
-            Status::Refused => 3,
+            Status::Refused | Status::NoRoom => 3,
             Status::FileFault => 4,
             Status::OutFault => 5,
             Status::BadInput => 6,

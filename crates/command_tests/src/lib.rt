@@ -2,11 +2,13 @@
 #![tactic(auto)]
 
 #[cfg(test)]
+mod events;
+#[cfg(test)]
 mod faults;
 #[cfg(test)]
 mod objects;
 #[cfg(test)]
-mod port_writes;
+mod refusals;
 #[cfg(test)]
 mod seeing;
 #[cfg(test)]

@@ -25,6 +25,18 @@ pub fn split(alloc: Global, text: &str) -> Result<Vec<String>, NoMemory> {
     Ok(words)
 }
 
+/// Runs the program on words: its status and what it prints.
+pub fn run_words<F: Files>(
+    alloc: Global,
+    files: &mut F,
+    words: &str,
+) -> Result<(u8, MemorySink), NoMemory> {
+    let list = split(alloc, words)?;
+    let mut out = MemorySink::new(alloc);
+    let status = cerco(alloc, &list, files, &mut out);
+    Ok((status, out))
+}
+
 /// Runs the program on words, and sees its status and what it prints.
 pub fn see<F: Files>(
     rt: &impl Abort,
@@ -34,9 +46,7 @@ pub fn see<F: Files>(
     status: u8,
     printed: &str,
 ) -> Result<(), NoMemory> {
-    let list = split(alloc, words)?;
-    let mut out = MemorySink::new(alloc);
-    let found = cerco(alloc, &list, files, &mut out);
+    let (found, out) = run_words(alloc, files, words)?;
     assert_eq!(rt; found, status, "{words}");
     assert_eq!(rt; out.bytes(), printed.as_bytes(), "{words}");
     Ok(())

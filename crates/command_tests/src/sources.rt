@@ -1,6 +1,7 @@
-//! Sources that are built, and sources that are refused.
+//! Sources that are built, and what is written of them.
 
-use crate::seeing::{EMPTY, EMPTY_HEX, MAP, WRITE_HEX, see, see_file, see_no_file, split};
+use crate::refusals::see_refused;
+use crate::seeing::{EMPTY, EMPTY_HEX, MAP, WRITE_HEX, see, see_file, split};
 use cerco_base::{MemoryFiles, NoMemory, SoundFiles, SoundSink};
 use cerco_command::cerco;
 use std::alloc::Global;
@@ -55,22 +56,7 @@ fn a_program_is_built_run_and_listed(rt: HostRuntime) -> Result<(), NoMemory> {
     run_empty(&rt, rt.alloc(), &mut files)
 }
 
-// Builds a source into `h`, `m` and `n`, and sees the object and its map.
-fn see_built(
-    rt: &impl Abort,
-    alloc: Global,
-    files: &mut MemoryFiles,
-    source: &[u8],
-    hex: &[u8],
-) -> Result<(), NoMemory> {
-    files.place("a", source)?;
-    see(rt, alloc, files, "build a h m n", 0, "")?;
-    see_file(rt, files, "h", hex);
-    see_file(rt, files, "m", MAP);
-    Ok(())
-}
-
-// Limits of cycles for the run of a program that writes 5, and what it prints.
+// Limits of cycles for the run of an object that writes 5 to port 1, and what it prints.
 #[rattlefmt::skip]
 const LIMITS: [(&str, &str); 5] = [
     ("run h m s 100", "L0 4\nP1 5 5\nend 9\n"),
@@ -81,16 +67,11 @@ const LIMITS: [(&str, &str); 5] = [
 ];
 
 #[test]
-fn a_port_write_is_built_and_run(rt: HostRuntime) -> Result<(), NoMemory> {
+fn a_run_has_a_limit(rt: HostRuntime) -> Result<(), NoMemory> {
     let alloc = rt.alloc();
     let mut files = MemoryFiles::new(alloc);
-    see_built(&rt, alloc, &mut files, b"void main(void){P1=5;}", WRITE_HEX)?;
-    see_file(
-        &rt,
-        &files,
-        "n",
-        b"/*@*/unsigned long __cost=4;/*@*/void main(void){/*@*/__cost+=5;/*@*/P1=5;}",
-    );
+    files.place("h", WRITE_HEX)?;
+    files.place("m", MAP)?;
     files.place("s", b"")?;
     for (words, printed) in &LIMITS {
         see(&rt, alloc, &mut files, words, 0, printed)?;
@@ -98,92 +79,56 @@ fn a_port_write_is_built_and_run(rt: HostRuntime) -> Result<(), NoMemory> {
     Ok(())
 }
 
+// The text without its decimal digits.
+fn without_digits(alloc: Global, text: &[u8]) -> Result<Vec<u8>, NoMemory> {
+    let mut rest = Vec::new(alloc);
+    for byte in text {
+        if !byte.is_ascii_digit() {
+            rest.push(*byte)?;
+        }
+    }
+    Ok(rest)
+}
+
+// Builds a source, and sees its annotated text but for the digits.
+fn see_annotated(
+    rt: &impl Abort,
+    alloc: Global,
+    source: &[u8],
+    wanted: &[u8],
+) -> Result<(), NoMemory> {
+    let mut files = MemoryFiles::new(alloc);
+    files.place("a", source)?;
+    see(rt, alloc, &mut files, "build a h m n", 0, "")?;
+    let found = without_digits(alloc, files.bytes("n").unwrap_or(b""))?;
+    assert_eq!(rt; found.as_slice(), wanted);
+    Ok(())
+}
+
 #[test]
-fn blanks_comments_and_parentheses_are_kept(rt: HostRuntime) -> Result<(), NoMemory> {
-    let mut files = MemoryFiles::new(rt.alloc());
-    let source = b" void main ( void ) { /* a */ P1 = ((5)) ; }\n";
-    see_built(&rt, rt.alloc(), &mut files, source, WRITE_HEX)?;
-    see_file(
-        &rt,
-        &files,
-        "n",
-        b"/*@*/unsigned long __cost=4;/*@*/ void main ( void ) {/*@*/__cost+=5;/*@*/ /* a */ P1 = ((5)) ; }\n",
-    );
-    // an octal number
-    see_built(
+fn arms_and_loops_are_annotated(rt: HostRuntime) -> Result<(), NoMemory> {
+    see_annotated(
         &rt,
         rt.alloc(),
-        &mut files,
-        b"void main(void){P1=05;}",
-        WRITE_HEX,
-    )
-}
-
-// Builds from a text that is refused with a line.
-fn see_refused(rt: &impl Abort, alloc: Global, text: &[u8], line: &str) -> Result<(), NoMemory> {
-    let mut files = MemoryFiles::new(alloc);
-    files.place("a", text)?;
-    see(rt, alloc, &mut files, "build a h m n", 3, line)?;
-    see_no_file(rt, &files, "h");
-    Ok(())
-}
-
-// `main` with a number in some parentheses that is written to port 1.
-fn nested(alloc: Global, count: usize) -> Result<String, NoMemory> {
-    let mut text = String::from_str(alloc, "void main(void){P1=")?;
-    for _ in 0..count {
-        text.push_str("(")?;
-    }
-    text.push_str("1")?;
-    for _ in 0..count {
-        text.push_str(")")?;
-    }
-    text.push_str(";}")?;
-    Ok(text)
-}
-
-#[test]
-fn sixty_four_parentheses_are_built(rt: HostRuntime) -> Result<(), NoMemory> {
-    let alloc = rt.alloc();
-    let mut files = MemoryFiles::new(alloc);
-    files.place("a", nested(alloc, 64)?.as_bytes())?;
-    see(&rt, alloc, &mut files, "build a h m n", 0, "")?;
-    see_refused(
+        b"void main(void){unsigned char a;a=P1;if(a);else P1=1;}",
+        b"/*@*/unsigned long __cost=;/*@*/void main(void){/*@*/__cost+=;/*@*/unsigned char a;a=P;if(a)/*@*/{__cost+=;/*@*/;/*@*/}/*@*/else /*@*/{__cost+=;/*@*/P=;/*@*/}/*@*/}",
+    )?;
+    see_annotated(
         &rt,
-        alloc,
-        nested(alloc, 65)?.as_bytes(),
-        "refused 6 nesting at 19\n",
+        rt.alloc(),
+        b"void main(void){unsigned char b;b=P1;while(b)b=P1;}",
+        b"/*@*/unsigned long __cost=;/*@*/void main(void){/*@*/__cost+=;/*@*/unsigned char b;b=P;while(b)/*@*/{__cost+=;/*@*/b=P;/*@*/}__cost+=;/*@*/}",
     )
 }
 
-// Texts, and the line with which they are refused.
-#[rattlefmt::skip]
-const REFUSED: [(&str, &str); 17] = [
-    ("void main(void){P1=\u{7f};}", "refused 2 byte at 19\n"),
-    ("/*@*/void main(void){}", "refused 3 marker at 0\n"),
-    ("void main(void){}/* x", "refused 4 token at 17\n"),
-    ("void main(void){P1=65536;}", "refused 4 token at 19\n"),
-    ("void main(void){P1=1}", "refused 5 syntax at 20\n"),
-    ("void main(void){P1=+5;}", "refused 5 syntax at 19\n"),
-    ("void main(void){", "refused 5 syntax at 16\n"),
-    ("void main(void){}}", "refused 5 syntax at 17\n"),
-    ("", "refused 7 name main at 0\n"),
-    ("void f(void){}", "refused 7 name main at 14\n"),
-    ("void main(void){break;x=1;}", "refused 7 name unknown at 22\n"),
-    ("void f(void){f();}void main(void){P1=1<<16;}", "refused 8 type shift at 38\n"),
-    ("char t[65534];char u;void f(void){f();}void main(void){}", "refused 9 recursion at 26\n"),
-    ("char t[65534];char u;void main(void){}", "refused 11 data 65535\n"),
-    ("void main(void){P1=256;}", "refused 0 unsupported\n"),
-    ("void main(void){int x;}", "refused 0 unsupported\n"),
-    ("void main(void){}int x;", "refused 0 unsupported\n"),
-];
-
 #[test]
-fn other_sources_are_refused(rt: HostRuntime) -> Result<(), NoMemory> {
-    for (text, line) in &REFUSED {
-        see_refused(&rt, rt.alloc(), text.as_bytes(), line)?;
-    }
-    Ok(())
+fn blanks_comments_and_parentheses_are_kept(rt: HostRuntime) -> Result<(), NoMemory> {
+    see_annotated(
+        &rt,
+        rt.alloc(),
+        b" void main ( void ) { /* a */ P1 = ((5)) ; }\n",
+        b"/*@*/unsigned long __cost=;/*@*/ void main ( void ) {/*@*/__cost+=;/*@*/ /* a */ P = (()) ; }\n",
+    )
 }
 
 #[test]
@@ -193,26 +138,31 @@ fn the_longest_source_is_built(rt: HostRuntime) -> Result<(), NoMemory> {
     for _ in 0..65518 {
         text.push(b' ')?;
     }
-    see_built(
-        &rt,
-        alloc,
-        &mut MemoryFiles::new(alloc),
-        text.as_slice(),
-        EMPTY_HEX,
-    )?;
+    let mut files = MemoryFiles::new(alloc);
+    files.place("a", text.as_slice())?;
+    see(&rt, alloc, &mut files, "build a h m n", 0, "")?;
+    see_file(&rt, &files, "h", EMPTY_HEX);
     text.push(b' ')?;
     see_refused(&rt, alloc, text.as_slice(), "refused 1 long\n")
 }
 
+// A long source whose code is nearly as long as code memory.
 #[test]
-fn the_longest_main_is_built(rt: HostRuntime) -> Result<(), NoMemory> {
+fn a_long_main_is_built(rt: HostRuntime) -> Result<(), NoMemory> {
     let alloc = rt.alloc();
     let mut text = Vec::from_slice(alloc, b"void main(void){")?;
-    for _ in 0..13103 {
-        text.extend_from_slice(b"P1=0;")?;
+    for _ in 0..4000 {
+        text.extend_from_slice(b"P1=1;")?;
     }
     text.push(b'}')?;
     let mut files = MemoryFiles::new(alloc);
     files.place("a", text.as_slice())?;
     see(&rt, alloc, &mut files, "build a h m n", 0, "")
+}
+
+#[test]
+fn the_most_data_are_built(rt: HostRuntime) -> Result<(), NoMemory> {
+    let mut files = MemoryFiles::new(rt.alloc());
+    files.place("a", b"unsigned char a[65534];void main(void){}")?;
+    see(&rt, rt.alloc(), &mut files, "build a h m n", 0, "")
 }

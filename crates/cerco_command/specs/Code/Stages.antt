@@ -1,9 +1,7 @@
 -- The stages of the commands: what a reply is, how `build` reads a source, compiles it and writes the outputs, and how a text is put
 -- by pieces. (The compiler's own.)
-use Rattle.std.specs.Prelude.{◌≡◌, ℕ, ◌+◌, ◌<◌, length, ◌≤◌, List, [], ◌∷◌, ◌++◌, Option, Some, None, Result, OnOk, OnErr, IfErr, IsTrue, string_bytes, ◌⊎◌}
+use Rattle.std.specs.Prelude.{◌≡◌, ℕ, ◌+◌, ◌<◌, length, All, ◌≤◌, List, [], ◌∷◌, ◌++◌, Option, Some, None, Result, OnOk, OnErr, IfErr, IsTrue, string_bytes, ◌⊎◌}
 use Rattle.cerco_base.specs.Outside.IoFaults.{Rose}
-use Rattle.cerco_base.specs.declared.reasons.Fault.{Fault}
-use Rattle.cerco_base.specs.declared.reasons.Fault.TheVariants as f
 use Rattle.cerco_base.specs.Outside.IoStates.{FilesState, SinkState, SameFiles}
 use Rattle.cerco_base.specs.Outside.IoCalls.{Keeps, Adds}
 use Rattle.mcs51_isa.specs.declared.instr.Instr.{Instr}
@@ -14,31 +12,46 @@ use Rattle.sim51.specs.State.{State}
 use Rattle.sim51.specs.Step.{Moved, Goes, step}
 use Rattle.sim51.specs.State.{LoadedMachine}
 use Rattle.sim51.specs.Runs.{events_of}
+use Rattle.object_hex.specs.MapMeaning.{AreDistinct}
+use Rattle.clight_syntax.specs.declared.points.Point.{Point}
+use Rattle.clight_syntax.specs.Annotations.{Costs, annotated}
+use Rattle.annotate.specs.Erasure.{erased}
+use Rattle.annotate.specs.Numbers.{numbers}
+use Rattle.cerco_pipeline.specs.Built.{IsBuilt}
+use Rattle.cerco_pipeline.specs.declared.Built.{Built}
 use Rattle.cerco_command.specs.Words.{BuildFiles}
 use Rattle.cerco_command.specs.Answers.{NamedText, AreWritten, ArePartlyWritten}
-use Rattle.cerco_command.specs.Building.{AreCompiled, HasFirstReason, SaysRefused, outputs}
-use Rattle.plain_programs.specs.PlainPrograms.{Plain}
-use Rattle.cerco_command.specs.PlainPrograms.{IsPlainProgram, IsOtherProgram}
+use Rattle.cerco_command.specs.Building.{AreCompiled, SaysRefused, SaysNoRoom, outputs}
 use Rattle.cerco_command.specs.Messages.{file_fault, event_lines, reserved_line}
 use Rattle.cerco_command.specs.Running.{Stops}
 use Rattle.cerco_command.specs.Disassembly.{listed_at}
 use Rattle.cerco_command.specs.declared.reply.Reply.{Reply}
 use Rattle.cerco_command.specs.declared.status.Status.{Status}
-use Rattle.cerco_command.specs.declared.status.Status.TheVariants.{Done, Refused, FileFault, NoMemory}
+use Rattle.cerco_command.specs.declared.status.Status.TheVariants.{Done, Refused, NoRoom, FileFault, NoMemory}
+
+-- the costs that were built
+abbrev pub costs_in : Built → Costs
+costs_in built = record { start = built.start; labels = built.costs.items }
+
+-- this was built from the source
+abbrev pub IsBuiltFrom : List ℕ → Built → Type 0
+IsBuiltFrom source built = IsBuilt source built.points built.code built.labels (costs_in built)
+
+-- addresses of labels that a text can have
+pub record MayStand (labels : List ℕ) : Type 0 where
+  pub few : length labels ≤ 65536
+  pub within : All (λ address. address < 65536) labels
+  pub apart : AreDistinct labels
+
+-- The annotated text of a source: without the annotations it is the source, and its numbers are the costs.
+pub record IsAnnotatedText (source : List ℕ) (points : List Point) (costs : Costs) (text : List ℕ) : Type 0 where
+  pub annotations : text ≡ annotated source points costs
+  pub erases : erased text ≡ source
+  pub numbers_are : numbers text ≡ costs.start ∷ costs.labels
 
 -- a reply with this status and line, or out of memory
 abbrev pub Replies : Status → List ℕ → Status → List ℕ → Type 0
 Replies meant text status line = ((status ≡ meant) × (line ≡ text)) ⊎ ((status ≡ NoMemory) × (line ≡ []))
-
--- the program of port writes that a sound text is, if it is one
-abbrev pub IsProgram : List ℕ → Option Plain → Type 0
-IsProgram text (Some plain) = IsPlainProgram text plain
-IsProgram text None = IsOtherProgram text
-
--- why a text is no sound program. Nothing is said of being out of memory
-abbrev pub IsNoProgram : List ℕ → Fault → Type 0
-IsNoProgram text f.OutOfMemory = Unit {0}
-IsNoProgram text (f.Refused reason) = HasFirstReason text reason
 
 -- one of the names of these texts
 abbrev pub IsNameOf : List ℕ → List NamedText → Type 0
@@ -75,6 +88,7 @@ pub record Makes (files : BuildFiles) (source : List ℕ) (s t : FilesState) (st
 -- what the status means once the source is read
 abbrev pub BuildsOn : BuildFiles → List ℕ → FilesState → FilesState → Status → List ℕ → Type 0
 BuildsOn files source s t Refused line = SaysRefused source line × (IsTrue s.known → SameFiles s t)
+BuildsOn files source s t NoRoom line = SaysNoRoom source line × (IsTrue s.known → SameFiles s t)
 BuildsOn files source s t NoMemory line = ((line ≡ []) × (IsTrue s.known → SameFiles s t)) ⊎ Makes files source s t NoMemory line
 BuildsOn files source s t status line = Makes files source s t status line
 

@@ -1,6 +1,6 @@
 use Rattle.cerco_command.specs.Words.{files_of}
 use Rattle.cerco_command.proofs.Built.{made}
-use Rattle.cerco_command.proofs.building.build_program.Goals as goal
+use Rattle.cerco_command.proofs.building.write_built.Goals as goal
 
 pub returns-in-Ok : goal.returns-in-Ok
 returns-in-Ok g c =
