@@ -1,6 +1,11 @@
-//! Tests of the languages between the source and the object, and of the layout of the last one.
+//! Tests of the languages between the source and the object: the places of the calling convention, frames of cells, and the layout
+//! of the last language.
 #![tactic(auto)]
 
+#[cfg(test)]
+mod convention;
+#[cfg(test)]
+mod frames;
 #[cfg(test)]
 mod jumps;
 #[cfg(test)]

@@ -3,6 +3,7 @@
 use crate::runs::agrees;
 use cerco_base::Fault;
 use std::alloc::Global;
+use std::process::Abort;
 
 const TYPES: [&str; 5] = [
     "unsigned char",
@@ -27,14 +28,37 @@ fn agrees_on(alloc: Global, left: &str, right: &str) -> Result<bool, Fault> {
     agrees(alloc, text.as_bytes(), &SCRIPTS)
 }
 
-#[test]
-fn operators_do_what_they_mean(rt: HostRuntime) -> Result<(), Fault> {
-    for left in &TYPES {
-        for right in &TYPES {
-            assert!(rt; agrees_on(rt.alloc(), left, right)?, "{left}, {right}");
-        }
+// Sees the operators with a left operand of this type.
+fn see_left(rt: &impl Abort, alloc: Global, left: &str) -> Result<(), Fault> {
+    for right in &TYPES {
+        assert!(rt; agrees_on(alloc, left, right)?, "{left}, {right}");
     }
     Ok(())
+}
+
+#[test]
+fn operators_on_unsigned_char(rt: HostRuntime) -> Result<(), Fault> {
+    see_left(&rt, rt.alloc(), "unsigned char")
+}
+
+#[test]
+fn operators_on_signed_char(rt: HostRuntime) -> Result<(), Fault> {
+    see_left(&rt, rt.alloc(), "signed char")
+}
+
+#[test]
+fn operators_on_char(rt: HostRuntime) -> Result<(), Fault> {
+    see_left(&rt, rt.alloc(), "char")
+}
+
+#[test]
+fn operators_on_int(rt: HostRuntime) -> Result<(), Fault> {
+    see_left(&rt, rt.alloc(), "int")
+}
+
+#[test]
+fn operators_on_unsigned_int(rt: HostRuntime) -> Result<(), Fault> {
+    see_left(&rt, rt.alloc(), "unsigned int")
 }
 
 #[test]

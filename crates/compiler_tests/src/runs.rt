@@ -1,6 +1,9 @@
 //! The run of a source's object beside the source's meaning: each event, with the cycles at each label and at the end.
 
-use cerco_base::{Event, Fault, IoFault, NoMemory, SoundSink};
+ghost use Rattle.std.specs.Prelude.{IfOk, nat_eq};
+ghost use Rattle.std.specs.List.{IsDistinct};
+
+use cerco_base::{Event, Fault, FaultKind, IoFault, LabelList, NoMemory, SoundSink};
 use cerco_pipeline::{Compiled, compile};
 use clight_meaning::{Evaluator, Turn};
 use object_hex::{read_map, write_map};
@@ -12,6 +15,9 @@ const MOST_LABELS: u32 = 40;
 
 /// How many steps or events are told of at most.
 const MOST_STEPS: u32 = 200_000;
+
+/// The text of the addresses of labels has no more bytes.
+const LONGEST: usize = 1 << 20;
 
 /// A run is told up to so many cycles.
 const MOST_CYCLES: u64 = 1 << 40;
@@ -97,7 +103,25 @@ fn tell_object(alloc: Global, machine: &mut Machine<'_>, told: &mut Told) -> Res
     Ok(())
 }
 
-// The run of an object. Its labels go through their text, whose reader sees that they differ.
+// The addresses of the labels, through their text, whose reader sees that they differ.
+fn labels_of(alloc: Global, compiled: &Compiled) -> Result<LabelList, NoMemory>
+    ensures distinct { IfOk result (IsDistinct nat_eq) }
+{
+    let mut text = SoundSink::new(alloc);
+    if write_map(compiled.labels(), &mut text).is_err() {
+        return Err(NoMemory);
+    }
+    let bytes = text.bytes();
+    if bytes.len() > LONGEST {
+        return Err(NoMemory);
+    }
+    match read_map(alloc, bytes) {
+        Ok(labels) => Ok(labels),
+        Err(_) => Err(NoMemory),
+    }
+}
+
+// The run of an object.
 fn run_object(
     alloc: Global,
     compiled: &Compiled,
@@ -105,17 +129,12 @@ fn run_object(
     told: &mut Told,
 ) -> Result<(), NoMemory> {
     let code = compiled.code();
-    let mut text = SoundSink::new(alloc);
-    if code.len() > 65536 || write_map(compiled.labels(), &mut text).is_err() {
+    if code.len() > 65536 {
         return Err(NoMemory);
     }
-    match read_map(alloc, text.bytes()) {
-        Ok(labels) => {
-            let mut machine = Machine::load(alloc, code, labels.as_slice(), script)?;
-            tell_object(alloc, &mut machine, told)
-        }
-        Err(_) => Err(NoMemory),
-    }
+    let labels = labels_of(alloc, compiled)?;
+    let mut machine = Machine::load(alloc, code, labels.as_slice(), script)?;
+    tell_object(alloc, &mut machine, told)
 }
 
 // ---- the meaning
@@ -127,70 +146,115 @@ fn cost_of(costs: &[u32], label: u16) -> u64 {
     }
 }
 
-// The run of a source by its meaning, with the costs of its labels. The answer is whether it met no fault.
-fn run_meaning(
+// Tells of a run by its meaning that has taken so many cycles, with the costs of its labels. The answer is the fault that it met, if any.
+fn tell_meaning(
     alloc: Global,
-    compiled: &Compiled,
-    script: &[u8],
+    evaluator: &mut Evaluator<'_>,
+    costs: &[u32],
+    start: u32,
     told: &mut Told,
-) -> Result<bool, NoMemory> {
-    let mut evaluator = Evaluator::new(alloc, compiled.labelled(), script)?;
-    let mut cycles = u64::from(compiled.start());
+) -> Result<Option<FaultKind>, NoMemory> {
+    let mut cycles = u64::from(start);
     for _ in 0..MOST_STEPS {
         if evaluator.labels() >= 100 {
-            return Ok(true);
+            return Ok(None);
         }
         match evaluator.next()? {
             Turn::Event(Event::Label(label)) => {
                 if !told.pass(alloc, label.0, cycles)? {
-                    return Ok(true);
+                    return Ok(None);
                 }
-                cycles = cycles.saturating_add(cost_of(compiled.costs(), label.0));
+                cycles = cycles.saturating_add(cost_of(costs, label.0));
             }
             Turn::Event(Event::Read(_, byte)) => told.read(alloc, byte)?,
             Turn::Event(Event::Write(_, byte)) => told.write(alloc, byte)?,
             Turn::Ended => {
                 told.end(alloc, cycles)?;
-                return Ok(true);
+                return Ok(None);
             }
-            Turn::Fault(_) => return Ok(false),
+            Turn::Fault(kind) => return Ok(Some(kind)),
         }
     }
-    Ok(true)
+    Ok(None)
 }
 
-/// What is told of the run of a source: the object's, where it agrees with the meaning, costs included, and after a fault begins with it;
-/// else both.
+// The run of a source by its meaning, and the fault that it met, if any.
+fn run_meaning(
+    alloc: Global,
+    compiled: &Compiled,
+    script: &[u8],
+    told: &mut Told,
+) -> Result<Option<FaultKind>, NoMemory> {
+    let mut evaluator = Evaluator::new(alloc, compiled.labelled(), script)?;
+    tell_meaning(
+        alloc,
+        &mut evaluator,
+        compiled.costs(),
+        compiled.start(),
+        told,
+    )
+}
+
+// What is told of the run of a source: the object's, where it agrees with the meaning, costs included; up to a fault that the meaning
+// meets, with the fault, where the object's begins so; else both.
 fn told_of(alloc: Global, compiled: &Compiled, script: &[u8]) -> Result<String, NoMemory> {
     let mut object = Told::new(alloc);
     run_object(alloc, compiled, script, &mut object)?;
     let mut meaning = Told::new(alloc);
-    let is_whole = run_meaning(alloc, compiled, script, &mut meaning)?;
-    let is_same = object.words == meaning.words;
+    let fault = run_meaning(alloc, compiled, script, &mut meaning)?;
     let begins = object
         .words
         .as_bytes()
         .starts_with(meaning.words.as_bytes());
-    if is_same || (!is_whole && begins) {
-        return Ok(meaning.words);
+    match fault {
+        None if object.words == meaning.words => Ok(meaning.words),
+        Some(kind) if begins => Ok(format!(in alloc; "{}{kind:?}", meaning.words)?),
+        _ => Ok(format!(in alloc; "object {} meaning {}", object.words, meaning.words)?),
     }
-    Ok(format!(in alloc; "object {} meaning {}", object.words, meaning.words)?)
+}
+
+// What is told of a run, with how many bytes of code there are.
+fn told_with_length(
+    alloc: Global,
+    compiled: &Compiled,
+    script: &[u8],
+) -> Result<(String, usize), Fault> {
+    let told = told_of(alloc, compiled, script)?;
+    Ok((told, compiled.code().len()))
+}
+
+/// What is told of the run of a text on a script, and how many bytes of code it has.
+pub fn run_with_length(
+    alloc: Global,
+    text: &[u8],
+    script: &[u8],
+) -> Result<(String, usize), Fault> {
+    let compiled = compile(alloc, text)?;
+    told_with_length(alloc, &compiled, script)
 }
 
 /// What is told of the run of a text on a script.
 pub fn run(alloc: Global, text: &[u8], script: &[u8]) -> Result<String, Fault> {
-    let compiled = compile(alloc, text)?;
-    Ok(told_of(alloc, &compiled, script)?)
+    let (told, _) = run_with_length(alloc, text, script)?;
+    Ok(told)
 }
 
-/// Whether object and meaning agree on these scripts.
-pub fn agrees(alloc: Global, text: &[u8], scripts: &[&[u8]]) -> Result<bool, Fault> {
-    let compiled = compile(alloc, text)?;
+// Whether object and meaning agree on these scripts. A run that reads nothing is the same on all of them.
+fn agree(alloc: Global, compiled: &Compiled, scripts: &[&[u8]]) -> Result<bool, Fault> {
     for script in scripts {
-        let words = told_of(alloc, &compiled, script)?;
+        let words = told_of(alloc, compiled, script)?;
         if words.as_bytes().starts_with(b"object") {
             return Ok(false);
         }
+        if !words.as_bytes().contains(&b'R') {
+            return Ok(true);
+        }
     }
     Ok(true)
+}
+
+/// Whether the object of a text and its meaning agree on these scripts.
+pub fn agrees(alloc: Global, text: &[u8], scripts: &[&[u8]]) -> Result<bool, Fault> {
+    let compiled = compile(alloc, text)?;
+    agree(alloc, &compiled, scripts)
 }

@@ -2,62 +2,10 @@
 //! other way in, both arms of a test are labels, no node is the false arm of two tests, and each way around a loop passes a label.
 //! Labels are there once, those of unreachable code too.
 
+use crate::sources::{ARMS, DO_LOOP, RING, SOURCES, UNREACHABLE, WHILE_BOTH, graphs_of_text};
 use cerco_base::{Fault, NoMemory};
-use cerco_middle::{RtFunction, RtLabs, RtNode, RtOp};
-use clight_check::check;
-use clight_reader::parse;
-use clight_tokens::tokens;
-use cminor_gen::to_cminor;
-use cost_labels::label;
-use rtlabs_gen::to_rtlabs;
+use cerco_middle::{RtFunction, RtNode, RtOp};
 use std::alloc::Global;
-
-const ARMS: &str = "void main(void){unsigned char a;a=P1;if(a);else P1=1;}";
-
-const DO_LOOP: &str =
-    "void main(void){unsigned char a;unsigned char b;a=P1;b=P1;do{if(a)break;}while(b);}";
-
-const WHILE_BOTH: &str =
-    "void main(void){unsigned char a;unsigned char b;a=P1;b=P1;while(a&&b){a=0;P1=b;}}";
-
-const UNREACHABLE: &str = "void main(void){return;P1=1;while(1);}";
-
-#[rattlefmt::skip]
-const RING: &str = "unsigned char ring[32];unsigned char head;unsigned char tail;unsigned char fill;unsigned int total;\
-unsigned char last=255;unsigned char level=255;\
-void put(unsigned char b){ring[head]=b;head=(head+1)&31;fill=fill+1;}\
-unsigned char get(void){unsigned char b;b=ring[tail];tail=(tail+1)&31;fill=fill-1;return b;}\
-void add(unsigned char b){unsigned char old;if(fill>=16){old=get();total=total-old;}put(b);total=total+b;}\
-void sample(void){unsigned char b;b=P1;if(b==last)level=b;last=b;add(level);}\
-void main(void){while(1){sample();P1=total>>4;}}";
-
-#[rattlefmt::skip]
-const SOURCES: [&str; 24] = [
-    "void main(void){}",
-    "void main(void){unsigned char x;x=P1;}",
-    "void main(void){unsigned char x;x=P1;P1=x;x=P1;P1=x;}",
-    ARMS,
-    DO_LOOP,
-    WHILE_BOTH,
-    "void main(void){signed char a;unsigned char b;a=P1;b=P1;if(a<1)P1=1;if(b<1)P1=2;}",
-    "void main(void){int c;unsigned int d;c=-1;d=0xFFFF;if(c<1)P1=1;if(d<1)P1=2;if(c==d)P1=3;}",
-    "void main(void){unsigned char i;i=0;while(i<2){P1=i;P1=i;P1=i;i=i+1;}}",
-    "void main(void){P1=((((((((((((((((((((((((((((((((((((((((((((((((((((((((((((((((1))))))))))))))))))))))))))))))))))))))))))))))))))))))))))))))));}",
-    RING,
-    "void main(void){unsigned char a;unsigned char b;a=P1;b=8;b=b/a;P1=b;}",
-    UNREACHABLE,
-    "unsigned char a[65534];void main(void){}",
-    "void main(void){while(1){while(1)break;}}",
-    "void main(void){return;while(1)P1=1;}",
-    "void main(void){unsigned char i;for(i=0;i<9;i=i+1){if(i==1)continue;if(i==3)break;P1=i;}}",
-    "void main(void){for(;;);}",
-    "void main(void){unsigned char a;a=P1;if(!(a||!a&&a))P1=1;else{}do;while(!a&&a);}",
-    "unsigned char f(unsigned char a,int b){if(a||!(b&&a))return b;return a;}void main(void){unsigned char i;i=f(1,2);f(i,i);P1=i;}",
-    "unsigned char f(void){while(1){while(1)return 3;}}void main(void){unsigned char i;i=f();P1=i;}",
-    "int g[3]={1,2};struct s{int a;char b;};struct s x;void main(void){int *p;p=&g[1];*p=*p+g[2];x.b=*p;P1=x.b;}",
-    "int t;void main(void){int *p;p=&t;*p=-*p+2;*p=~*p<<3;*p=*p>>1;P1=*p|t^3&t;P1=p==&t;}",
-    "void f(void){while(1)if(1)continue;else break;}void main(void){do do f();while(0);while(1);}",
-];
 
 // Sources, and how many labels each of them has.
 const LABELLED: [(&str, u32); 5] = [
@@ -188,18 +136,9 @@ fn is_sound(alloc: Global, function: &RtFunction) -> Result<bool, NoMemory> {
     )
 }
 
-// The graphs of a source.
-fn graphs_of(alloc: Global, text: &str) -> Result<RtLabs, Fault> {
-    let list = tokens(alloc, text.as_bytes())?;
-    let typed = check(alloc, parse(alloc, &list)?)?;
-    let labelled = label(alloc, typed)?;
-    let cminor = to_cminor(alloc, &labelled)?;
-    Ok(to_rtlabs(alloc, &cminor)?)
-}
-
 // Whether the graphs of a source are soundly labelled.
 fn has_sound_graphs(alloc: Global, text: &str) -> Result<bool, Fault> {
-    let graphs = graphs_of(alloc, text)?;
+    let graphs = graphs_of_text(alloc, text)?;
     for function in graphs.functions.as_slice() {
         if !is_sound(alloc, function)? {
             return Ok(false);
@@ -227,7 +166,7 @@ fn label_counts(
 
 // Whether the graphs of a source have each of the labels below a number once, and no other.
 fn has_each_label_once(alloc: Global, text: &str, labels: u32) -> Result<bool, Fault> {
-    let graphs = graphs_of(alloc, text)?;
+    let graphs = graphs_of_text(alloc, text)?;
     let counts = label_counts(alloc, graphs.functions.as_slice(), labels.saturating_add(1))?;
     let (last, others) = counts.split_last().unwrap_or((&0, &[]));
     Ok(*last == 0 && others.iter().all(|count| *count == 1))
@@ -249,7 +188,7 @@ fn ways_to(alloc: Global, nodes: &[RtNode], label: u32) -> Result<Option<(u32, u
 }
 
 fn ways_to_label(alloc: Global, text: &str, label: u32) -> Result<Option<(u32, u32)>, Fault> {
-    let graphs = graphs_of(alloc, text)?;
+    let graphs = graphs_of_text(alloc, text)?;
     match graphs.functions.first() {
         Some(function) => Ok(ways_to(alloc, function.nodes.as_slice(), label)?),
         None => Ok(None),

@@ -3,3 +3,11 @@
 
 #[cfg(test)]
 mod graphs;
+#[cfg(test)]
+mod machine;
+#[cfg(test)]
+mod runs;
+#[cfg(test)]
+mod sources;
+#[cfg(test)]
+mod words;

@@ -6,4 +6,6 @@ mod annotated;
 #[cfg(test)]
 mod objects;
 #[cfg(test)]
+mod read_back;
+#[cfg(test)]
 mod tokens_of_texts;
