@@ -9,7 +9,7 @@ use Rattle.cerco_command.specs.Building.{SaysRefused, SaysNoRoom, BuildMeans}
 use Rattle.cerco_command.specs.Complete.{HasRoomUnder, IsDone, BuildsAll}
 use Rattle.cerco_command.specs.Status.{code_of}
 use Rattle.cerco_command.specs.Top.{Means}
-use Rattle.cerco_command.specs.Words.{BuildFiles, Request, Builds, Runs, Lists}
+use Rattle.cerco_command.specs.Words.{BuildFiles, Request, Builds, Runs, Lists, GivesCosts, Erases}
 use Rattle.cerco_command.specs.declared.status.Status.{Status}
 use Rattle.cerco_command.specs.declared.status.Status.TheVariants.{Done, NoFile, Refused, NoRoom, FileFault, OutFault, NoMemory}
 use Rattle.cerco_command.proofs.OneTree.{program_or_reason}
@@ -57,4 +57,6 @@ pub builds_all : (request : Option Request) (s t : FilesState) (o p : SinkState)
 builds_all (Some (Builds files)) s t o p status a = build_done files s t o p status a
 builds_all (Some (Runs words)) s t o p status a = tt
 builds_all (Some (Lists hex)) s t o p status a = tt
+builds_all (Some (GivesCosts files)) s t o p status a = tt
+builds_all (Some (Erases text)) s t o p status a = tt
 builds_all None s t o p status a = tt

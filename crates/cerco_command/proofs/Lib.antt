@@ -11,6 +11,9 @@ mod RunSteps
 mod RunEnds
 mod RunOnce
 mod ListOnce
+mod OneCase
+mod CostTexts
+mod CostsOnce
 mod Once
 mod Complete
 mod ListSteps

@@ -1,156 +1,23 @@
 -- The files determine what a command answers.
-use Rattle.std.proofs.Common.{◌≡◌, ℕ, ◌+◌, ◌<◌, List, [], ◌∷◌, take, Result, Ok, Err, Option, Some, None, IsTrue, refl, sym, ap, subst, ◌∙◌, arith, inl, inr, ◌⊎◌}
+use Rattle.std.proofs.Common.{◌≡◌, ℕ, ◌+◌, List, [], ◌∷◌, Option, Some, None, IsTrue, refl, sym, ap, subst, ◌∙◌, inl, inr, ◌⊎◌}
 use Rattle.cerco_base.specs.Outside.IoStates.{FilesState}
-use Rattle.object_hex.specs.declared.reading.faults.HexFault.{HexFault}
-use Rattle.object_hex.specs.declared.reading.faults.MapFault.{MapFault}
-use Rattle.object_hex.specs.declared.reading.faults.HexError.{HexError}
-use Rattle.object_hex.specs.declared.reading.faults.HexError.TheVariants as Hex
-use Rattle.object_hex.specs.declared.reading.faults.MapError.{MapError}
-use Rattle.object_hex.specs.declared.reading.faults.MapError.TheVariants as Map
-use Rattle.object_hex.specs.HexMeaning.{IsHexText, IsFirstFault}
-use Rattle.object_hex.specs.Lines.{lines}
-use Rattle.object_hex.specs.MapMeaning.{IsMapText, IsFirstBadLine}
-use Rattle.object_hex.proofs.HexWalk.{answer_code, answer_fault}
-use Rattle.object_hex.proofs.Maps.{map_answer_right, map_answer_fault}
-use Rattle.cerco_command.specs.Answers.{NamedText}
 use Rattle.cerco_command.specs.Building.{BuildMeans, SaysRefused, Refuses}
 use Rattle.cerco_command.specs.Building as BuildDone
 use Rattle.cerco_command.specs.Disassembly.{ListsTo, PrintsListing, ListMeans, ListMeansFor}
-use Rattle.cerco_command.specs.Inputs.{IsRead, IsFirstMissing, CannotRead, HasText, longest, NoneTooLong, IsFirstTooLong, SaysTooLong, SaysBadHex, SaysBadMap}
-use Rattle.cerco_command.specs.Messages.{no_file, bad_file, bad_hex, bad_map}
+use Rattle.cerco_command.specs.Erasing.{EraseMeans, EraseMeansFor}
+use Rattle.cerco_command.specs.Inputs.{IsFirstMissing, CannotRead, longest}
+use Rattle.cerco_command.specs.Messages.{no_file, bad_file}
 use Rattle.cerco_command.specs.Once.{IsFirm, MeansOnce}
 use Rattle.cerco_command.specs.Running.{RunTexts, RunsTo, PrintsRun, AreTextsOf, names_of, with_names, RunMeans, RunMeansFor}
 use Rattle.cerco_command.specs.Top.{Means, UsageMeans}
-use Rattle.cerco_command.specs.Words.{BuildFiles, RunRequest, Request, Builds, Runs, Lists}
+use Rattle.cerco_command.specs.Words.{BuildFiles, RunRequest, Request, Builds, Runs, Lists, GivesCosts, Erases}
 use Rattle.cerco_command.specs.declared.status.Status.{Status}
 use Rattle.cerco_command.specs.declared.status.Status.TheVariants.{Done, NoFile, Usage, Refused, NoRoom, FileFault, BadInput, Reserved, NoMemory}
+use Rattle.cerco_command.proofs.CostsOnce.{costs_once}
+use Rattle.cerco_command.proofs.OneCase.{one_code, one_map, map_or_fault, no_map, one_text, one_missing, unread, one_too_long, none_too_long, Cases, too_long, bad_hex_line, bad_map_line, works, one_case, one_read}
 use Rattle.cerco_command.proofs.RunOnce.{one_stop}
 use Rattle.cerco_command.proofs.ListOnce.{one_listing}
 use Rattle.cerco_command.proofs.OneTree.{program_or_reason, one_refusal}
-
--- a text gives one code, or has one first bad line
-one_code : (text c d : List ℕ) → IsHexText text c → IsHexText text d → c ≡ d
-one_code text c d p q = by ((answer_code text c p).accepts d q)
-  where
-    answer : List ℕ → Result (List ℕ) HexError
-    answer l = Ok l
-
-    by : (answer c ≡ Ok d) ⊎ (answer c ≡ Err Hex.OutOfMemory) → c ≡ d
-    by (inl e) = cc
-    by (inr e) = absurd cc
-
-code_or_fault : (text c : List ℕ) (f : HexFault) → IsHexText text c → IsFirstFault text f → ⊥
-code_or_fault text c f p q = by ((answer_code text c p).refuses f q)
-  where
-    answer : List ℕ → Result (List ℕ) HexError
-    answer l = Ok l
-
-    by : (answer c ≡ Err (Hex.Fault f)) ⊎ (answer c ≡ Err Hex.OutOfMemory) → ⊥
-    by (inl e) = cc
-    by (inr e) = cc
-
-one_fault : (text : List ℕ) (f g : HexFault) → IsFirstFault text f → IsFirstFault text g → f ≡ g
-one_fault text f g p q = by ((answer_fault text f p).refuses g q)
-  where
-    answer : HexFault → Result (List ℕ) HexError
-    answer x = Err (Hex.Fault x)
-
-    by : (answer f ≡ answer g) ⊎ (answer f ≡ Err Hex.OutOfMemory) → f ≡ g
-    by (inl e) = cc
-    by (inr e) = absurd cc
-
--- and so with the addresses of labels
-one_map : (text c d : List ℕ) → IsMapText text c → IsMapText text d → c ≡ d
-one_map text c d p q = by ((map_answer_right text c p).accepts d q)
-  where
-    answer : List ℕ → Result (List ℕ) MapError
-    answer l = Ok l
-
-    by : (answer c ≡ Ok d) ⊎ (answer c ≡ Err Map.OutOfMemory) → c ≡ d
-    by (inl e) = cc
-    by (inr e) = absurd cc
-
-map_or_fault : (text c : List ℕ) (f : MapFault) → IsMapText text c → IsFirstBadLine text f → ⊥
-map_or_fault text c f p q = by ((map_answer_right text c p).refuses f q)
-  where
-    answer : List ℕ → Result (List ℕ) MapError
-    answer l = Ok l
-
-    by : (answer c ≡ Err (Map.Fault f)) ⊎ (answer c ≡ Err Map.OutOfMemory) → ⊥
-    by (inl e) = cc
-    by (inr e) = cc
-
-one_bad_line : (text : List ℕ) (f g : MapFault) → IsFirstBadLine text f → IsFirstBadLine text g → f ≡ g
-one_bad_line text f g p q = by ((map_answer_fault text f p).refuses g q)
-  where
-    answer : MapFault → Result (List ℕ) MapError
-    answer x = Err (Map.Fault x)
-
-    by : (answer f ≡ answer g) ⊎ (answer f ≡ Err Map.OutOfMemory) → f ≡ g
-    by (inl e) = cc
-    by (inr e) = absurd cc
-
--- one file is the first that is missing
-one_missing : (s : FilesState) (a b : List ℕ) (names : List (List ℕ)) → IsFirstMissing s a names → IsFirstMissing s b names → a ≡ b
-one_missing s a b [] p q = absurd p
-one_missing s a b (n ∷ names) (inl p) (inl q) = p.0 ∙ sym q.0
-one_missing s a b (n ∷ names) (inl p) (inr q) = let none = p.1 in let there = q.0.1 in absurd cc
-one_missing s a b (n ∷ names) (inr p) (inl q) = let there = p.0.1 in let none = q.1 in absurd cc
-one_missing s a b (n ∷ names) (inr p) (inr q) = one_missing s a b names p.1 q.1
-
--- what is read of a file is one text
-one_text : (limit : ℕ) (s : FilesState) (name x y : List ℕ) → IsRead limit s name x → IsRead limit s name y → x ≡ y
-one_text limit s name x y p q =
-    let here = p.1 in
-    let here' = q.1 in
-    let same : p.0 ≡ q.0 = cc in
-    p.2 ∙ (ap (take limit) same ∙ sym q.2)
-
--- of files that couldn't be read, where no call failed, one isn't there
-unread : (names : List (List ℕ)) (s t : FilesState) (a : Status) (x : List ℕ) → IsTrue s.known → IsFirm a → CannotRead names s t a x → (a ≡ NoFile) × ((name : List ℕ) × (x ≡ no_file name) × IsFirstMissing s name names)
-unread names s t NoFile x known firm c = (refl, (c.0, c.1, c.3 known))
-unread names s t FileFault x known firm c = absurd firm
-unread names s t NoMemory x known firm c = absurd firm
-unread names s t a x known firm c = absurd c
-
--- one text is the first that is too long
-one_too_long : (a b : List ℕ) (files : List NamedText) → IsFirstTooLong a files → IsFirstTooLong b files → a ≡ b
-one_too_long a b [] p q = absurd p
-one_too_long a b (f ∷ files) (inl p) (inl q) = p.0 ∙ sym q.0
-one_too_long a b (f ∷ files) (inl p) (inr q) = let long = p.1 in let short = q.0 in absurd (omega arith)
-one_too_long a b (f ∷ files) (inr p) (inl q) = let short = p.0 in let long = q.1 in absurd (omega arith)
-one_too_long a b (f ∷ files) (inr p) (inr q) = one_too_long a b files p.1 q.1
-
-none_too_long : (a : List ℕ) (files : List NamedText) → NoneTooLong files → IsFirstTooLong a files → ⊥
-none_too_long a [] p q = q
-none_too_long a (f ∷ files) p (inl q) = let short = p.0 in let long = q.1 in omega arith
-none_too_long a (f ∷ files) p (inr q) = none_too_long a files p.1 q.1
-
--- What a command means for texts that it read: some are too long, or the HEX is bad, or the MAP is, or the work is done. The
--- command says what it is to be done, and whether there is a MAP.
-data Cases (files : List NamedText) (hex map : List ℕ) (Works : Status → List ℕ → Type 0) (a : Status) (x : List ℕ) : Type 0 where
-  too_long : a ≡ BadInput → SaysTooLong files x → Cases files hex map Works a x
-  bad_hex_line : a ≡ BadInput → NoneTooLong files → SaysBadHex hex x → Cases files hex map Works a x
-  bad_map_line : a ≡ BadInput → NoneTooLong files → (code : List ℕ) → IsHexText hex code → SaysBadMap map x → Cases files hex map Works a x
-  works : NoneTooLong files → (code : List ℕ) → IsHexText hex code → ((f : MapFault) → IsFirstBadLine map f → ⊥) → Works a x → Cases files hex map Works a x
-
-one_case : (files : List NamedText) (hex map : List ℕ) (Works : Status → List ℕ → Type 0) (a b : Status) (x y : List ℕ) → (Works a x → Works b y → (a ≡ b) × (x ≡ y)) → Cases files hex map Works a x → Cases files hex map Works b y → (a ≡ b) × (x ≡ y)
-one_case files hex map W a b x y once (too_long e p) (too_long f q) = (e ∙ sym f, p.2 ∙ (ap bad_file (one_too_long p.0 q.0 files p.1 q.1) ∙ sym q.2))
-one_case files hex map W a b x y once (bad_hex_line e n p) (bad_hex_line f m q) = (e ∙ sym f, p.2 ∙ (ap bad_hex (one_fault hex p.0 q.0 p.1 q.1) ∙ sym q.2))
-one_case files hex map W a b x y once (bad_map_line e n c h p) (bad_map_line f m d k q) = (e ∙ sym f, p.2 ∙ (ap bad_map (one_bad_line map p.0 q.0 p.1 q.1) ∙ sym q.2))
-one_case files hex map W a b x y once (works n c h r p) (works m d k r' q) = once p q
-one_case files hex map W a b x y once (too_long e p) (bad_hex_line f m q) = absurd (none_too_long p.0 files m p.1)
-one_case files hex map W a b x y once (too_long e p) (bad_map_line f m d k q) = absurd (none_too_long p.0 files m p.1)
-one_case files hex map W a b x y once (too_long e p) (works m d k r q) = absurd (none_too_long p.0 files m p.1)
-one_case files hex map W a b x y once (bad_hex_line e n p) (too_long f q) = absurd (none_too_long q.0 files n q.1)
-one_case files hex map W a b x y once (bad_map_line e n c h p) (too_long f q) = absurd (none_too_long q.0 files n q.1)
-one_case files hex map W a b x y once (works n c h r p) (too_long f q) = absurd (none_too_long q.0 files n q.1)
-one_case files hex map W a b x y once (bad_hex_line e n p) (bad_map_line f m d k q) = absurd (code_or_fault hex d p.0 k p.1)
-one_case files hex map W a b x y once (bad_hex_line e n p) (works m d k r q) = absurd (code_or_fault hex d p.0 k p.1)
-one_case files hex map W a b x y once (bad_map_line e n c h p) (bad_hex_line f m q) = absurd (code_or_fault hex c q.0 h q.1)
-one_case files hex map W a b x y once (works n c h r p) (bad_hex_line f m q) = absurd (code_or_fault hex c q.0 h q.1)
-one_case files hex map W a b x y once (bad_map_line e n c h p) (works m d k r q) = absurd (r p.0 p.1)
-one_case files hex map W a b x y once (works n c h r p) (bad_map_line f m d k q) = absurd (r q.0 q.1)
 
 -- the cases of `run`
 run_case : (names : RunRequest) (texts : RunTexts) (a : Status) (x : List ℕ) → IsFirm a → RunMeansFor names texts a x → Cases (with_names names texts) texts.hex texts.map (PrintsRun names texts) a x
@@ -202,11 +69,6 @@ run_once names s t u a b x y known fa fb p q = by p.means q.means
         let m = subst M (texts_same c.0 d.0 c.1 d.1) d.2 in
         one_case (with_names names c.0) c.0.hex c.0.map (PrintsRun names c.0) a b x y (one_run names c.0 a b x y) (run_case names c.0 a x fa c.2) (run_case names c.0 b y fb m)
 
--- a text without lines has no bad one
-no_map : (f : MapFault) → IsFirstBadLine [] f → ⊥
-unfolding lines
-no_map f p = let within : p.place < 0 = p.within in omega arith
-
 -- the cases of `list`, which reads no MAP
 list_case : (name hex : List ℕ) (a : Status) (x : List ℕ) → IsFirm a → ListMeansFor name hex a x → Cases ((name, hex) ∷ []) hex [] (PrintsListing hex) a x
 list_case name hex Done x firm m = works (m.0, tt) m.1.code m.1.is_code no_map m.1
@@ -222,26 +84,28 @@ one_list hex a b x y p q =
     one_listing p.code a b x y p.lists (subst C (one_code hex q.code p.code q.is_code p.is_code) q.lists)
 
 list_once : (name : List ℕ) → MeansOnce (ListMeans name)
-list_once name s t u a b x y known fa fb p q = by p.means q.means
-  where
-    Read : List ℕ → Type 0
-    Read hex = IsTrue s.known → HasText s name hex
+list_once name s t u a b x y known fa fb p q =
+    let M : List ℕ → Status → List ℕ → Type 0 = λ hex. ListMeansFor name hex in
+    one_read name M s t u a b x y known fa fb
+    (λ hex m n. one_case ((name, hex) ∷ []) hex [] (PrintsListing hex) a b x y (one_list hex a b x y) (list_case name hex a x fa m) (list_case name hex b y fb n)) p.means q.means
 
-    missing : (n hex : List ℕ) → IsFirstMissing s n (name ∷ []) → Read hex → ⊥
-    missing n hex (inl m) r = let none = m.1 in let there = (r known).1 in cc
-    missing n hex (inr m) r = m.1
+-- the answers of `erase` for a text
+one_erase : (name text : List ℕ) (a b : Status) (x y : List ℕ) → IsFirm a → IsFirm b → EraseMeansFor name text a x → EraseMeansFor name text b y → (a ≡ b) × (x ≡ y)
+one_erase name text Done Done x y fa fb p q = (refl, p.1 ∙ sym q.1)
+one_erase name text BadInput BadInput x y fa fb p q = (refl, p.2 ∙ (ap bad_file (one_too_long p.0 q.0 ((name, text) ∷ []) p.1 q.1) ∙ sym q.2))
+one_erase name text Done BadInput x y fa fb p q = absurd (none_too_long q.0 ((name, text) ∷ []) (p.0, tt) q.1)
+one_erase name text BadInput Done x y fa fb p q = absurd (none_too_long p.0 ((name, text) ∷ []) (q.0, tt) p.1)
+one_erase name text NoMemory b x y fa fb p q = absurd fa
+one_erase name text Done NoMemory x y fa fb p q = absurd fb
+one_erase name text BadInput NoMemory x y fa fb p q = absurd fb
+one_erase name text Done b x y fa fb p q = absurd q
+one_erase name text BadInput b x y fa fb p q = absurd q
+one_erase name text a b x y fa fb p q = absurd p
 
-    by : CannotRead (name ∷ []) s t a x ⊎ ((hex : List ℕ) × Read hex × ListMeansFor name hex a x) → CannotRead (name ∷ []) s u b y ⊎ ((hex : List ℕ) × Read hex × ListMeansFor name hex b y) → (a ≡ b) × (x ≡ y)
-    by (inl c) (inl d) =
-        let m = unread (name ∷ []) s t a x known fa c in
-        let n = unread (name ∷ []) s u b y known fb d in
-        (m.0 ∙ sym n.0, m.1.1 ∙ (ap no_file (one_missing s m.1.0 n.1.0 (name ∷ []) m.1.2 n.1.2) ∙ sym n.1.1))
-    by (inl c) (inr d) = let m = unread (name ∷ []) s t a x known fa c in absurd (missing m.1.0 d.0 m.1.2 d.1)
-    by (inr c) (inl d) = let n = unread (name ∷ []) s u b y known fb d in absurd (missing n.1.0 c.0 n.1.2 c.1)
-    by (inr c) (inr d) =
-        let M : List ℕ → Type 0 = λ hex. ListMeansFor name hex b y in
-        let m = subst M (one_text (longest + 1) s name d.0 c.0 (d.1 known) (c.1 known)) d.2 in
-        one_case ((name, c.0) ∷ []) c.0 [] (PrintsListing c.0) a b x y (one_list c.0 a b x y) (list_case name c.0 a x fa c.2) (list_case name c.0 b y fb m)
+erase_once : (name : List ℕ) → MeansOnce (EraseMeans name)
+erase_once name s t u a b x y known fa fb p q =
+    let M : List ℕ → Status → List ℕ → Type 0 = λ text. EraseMeansFor name text in
+    one_read name M s t u a b x y known fa fb (λ text. one_erase name text a b x y fa fb) p.means q.means
 
 -- a source isn't both compiled and refused
 accepted_or_refused : (files : BuildFiles) (s t u : FilesState) (text line : List ℕ) → BuildDone.Builds files s t → SaysRefused text line → Refuses files s u text → ⊥
@@ -300,4 +164,6 @@ pub means_once : (request : Option Request) → MeansOnce (Means request)
 means_once (Some (Builds files)) = build_once files
 means_once (Some (Runs names)) = run_once names
 means_once (Some (Lists hex)) = list_once hex
+means_once (Some (GivesCosts files)) = costs_once files
+means_once (Some (Erases text)) = erase_once text
 means_once None = usage_once

@@ -5,8 +5,8 @@ use Rattle.sim51.specs.State.{State, reset}
 use Rattle.sim51.specs.State.{LoadedMachine}
 use Rattle.sim51.specs.Runs.{setup_of, state_after, step_after}
 use Rattle.cerco_command.specs.Answers.{Answers}
-use Rattle.cerco_command.specs.Inputs.{NoneTooLong, AreObject}
-use Rattle.cerco_command.specs.Running.{RunsTo, RunTexts, PrintsRun, with_names, CannotLoad, RunMeansFor}
+use Rattle.cerco_command.specs.Inputs.{NoneTooLong, HasNoObject, AreObject}
+use Rattle.cerco_command.specs.Running.{RunsTo, RunTexts, PrintsRun, with_names, RunMeansFor}
 use Rattle.cerco_command.specs.Words.{RunRequest}
 use Rattle.cerco_command.specs.declared.status.Status.{Status}
 use Rattle.cerco_command.specs.declared.status.Status.TheVariants.{Done, BadInput, Reserved, NoMemory}
@@ -14,7 +14,7 @@ use Rattle.cerco_command.proofs.Answering.{answers_by}
 use Rattle.cerco_command.proofs.RunSteps.{stop_status}
 
 -- an object wasn't loaded
-pub not_loaded : (names : RunRequest) (texts : RunTexts) (status : Status) (line : List ℕ) → NoneTooLong (with_names names texts) → CannotLoad texts status line → RunMeansFor names texts status line
+pub not_loaded : (names : RunRequest) (texts : RunTexts) (status : Status) (line : List ℕ) → NoneTooLong (with_names names texts) → HasNoObject texts.hex texts.map status line → RunMeansFor names texts status line
 not_loaded names texts BadInput line short c = inr (short, c)
 not_loaded names texts NoMemory line short c = c
 not_loaded names texts status line short c = absurd c

@@ -73,6 +73,16 @@ HasNoLabels text BadInput line = SaysBadMap text line
 HasNoLabels text NoMemory line = line ≡ []
 HasNoLabels text status line = ⊥
 
+-- the texts of an object stand for none: the HEX is bad, else the MAP is
+abbrev pub SaysBadObject : List ℕ → List ℕ → List ℕ → Type 0
+SaysBadObject hex map line = SaysBadHex hex line ⊎ (((code : List ℕ) × IsHexText hex code) × SaysBadMap map line)
+
+-- what stands in the way of the object of two texts
+abbrev pub HasNoObject : List ℕ → List ℕ → Status → List ℕ → Type 0
+HasNoObject hex map BadInput line = SaysBadObject hex map line
+HasNoObject hex map NoMemory line = line ≡ []
+HasNoObject hex map status line = ⊥
+
 -- two texts that stand for the code and the labels of an object
 pub record AreObject (hex map code labels : List ℕ) : Type 0 where
   pub is_code : IsHexText hex code

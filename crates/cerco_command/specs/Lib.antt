@@ -7,6 +7,8 @@ pub mod Inputs
 pub mod Building
 pub mod Running
 pub mod Disassembly
+pub mod Costs
+pub mod Erasing
 pub mod Top
 pub mod Once
 pub mod Complete

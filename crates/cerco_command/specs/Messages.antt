@@ -11,6 +11,8 @@ use Rattle.object_hex.specs.declared.reading.faults.HexKind.{HexKind}
 use Rattle.object_hex.specs.declared.reading.faults.HexKind.TheVariants.{Form, Sum, «Type», Upper, End, Range, Twice, After, NoEnd}
 use Rattle.object_hex.specs.declared.reading.faults.MapFault.{MapFault}
 use Rattle.cerco_base.specs.Ports.{port_number}
+use Rattle.block_costs.specs.declared.faults.CostFault.{CostFault}
+use Rattle.block_costs.specs.declared.faults.CostFault.TheVariants as Fault
 
 -- a word of the program's own, and what it is about
 abbrev pub line_about : List ℕ → List ℕ → List ℕ
@@ -55,6 +57,29 @@ bad_map fault = line_about (codes "bad map ") (decimal fault.line)
 -- the reserved opcode stands at an address
 abbrev pub reserved_line : ℕ → List ℕ
 reserved_line address = line_about (codes "reserved ") (hex_word address)
+
+-- what the lines of costs call the start, and a label
+abbrev pub start_name : List ℕ
+start_name = codes "start"
+
+abbrev pub label_name : ℕ → List ℕ
+label_name number = codes "L" ++ decimal number
+
+-- the cost of the start or of a label, in machine cycles
+abbrev pub cost_line : List ℕ → ℕ → List ℕ
+cost_line name cycles = name ++ line_about (codes " ") (decimal cycles)
+
+-- why an address has no cost: the address, and the cycles of the two ways where they differ, that of the jump not taken first
+abbrev pub fault_line : CostFault → List ℕ
+fault_line (Fault.NoLabel at) = line_about (codes "nolabel ") (hex_word at)
+fault_line (Fault.Unequal at a b) = codes "unequal " ++ (hex_word at ++ (codes " " ++ (decimal a ++ line_about (codes " ") (decimal b))))
+fault_line (Fault.Reserved at) = reserved_line at
+fault_line (Fault.NoTarget at) = line_about (codes "notarget ") (hex_word at)
+fault_line (Fault.Second at) = line_about (codes "second ") (hex_word at)
+
+-- the start or a label has no cost
+abbrev pub uncosted_line : List ℕ → CostFault → List ℕ
+uncosted_line name fault = codes "uncosted " ++ (name ++ (codes " " ++ fault_line fault))
 
 -- a machine has halted after some cycles, or was stopped
 abbrev pub end_line : ℕ → List ℕ

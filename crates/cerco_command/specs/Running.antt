@@ -11,8 +11,7 @@ use Rattle.sim51.specs.Runs.{object, events_of, Setup, setup_of, state_after, st
 use Rattle.sim51.specs.State.{LoadedMachine}
 use Rattle.cerco_command.specs.Answers.{NamedText}
 use Rattle.cerco_command.specs.Messages.{event_line, end_line, stop_line, reserved_line}
-use Rattle.cerco_command.specs.Inputs.{CannotRead, HasText, NoneTooLong, SaysTooLong, SaysBadHex, SaysBadMap, AreObject}
-use Rattle.object_hex.specs.HexMeaning.{IsHexText}
+use Rattle.cerco_command.specs.Inputs.{CannotRead, HasText, NoneTooLong, SaysTooLong, SaysBadObject, AreObject}
 use Rattle.cerco_command.specs.Words.{RunRequest}
 use Rattle.cerco_command.specs.declared.running.Inputs.{Inputs}
 use Rattle.cerco_command.specs.declared.status.Status.{Status}
@@ -68,16 +67,6 @@ pub record PrintsRun (names : RunRequest) (texts : RunTexts) (status : Status) (
   pub labels : List ℕ
   pub object_read : AreObject texts.hex texts.map code labels
   pub runs : RunsTo (record { code = code; labels = labels; script = texts.script }) names.limit status text
-
--- the texts of an object stand for none: the HEX is bad, else the MAP is
-abbrev pub SaysBadObject : List ℕ → List ℕ → List ℕ → Type 0
-SaysBadObject hex map line = SaysBadHex hex line ⊎ (((code : List ℕ) × IsHexText hex code) × SaysBadMap map line)
-
--- why the object isn't loaded
-abbrev pub CannotLoad : RunTexts → Status → List ℕ → Type 0
-CannotLoad texts Is.BadInput line = SaysBadObject texts.hex texts.map line
-CannotLoad texts Is.NoMemory line = line ≡ []
-CannotLoad texts status line = ⊥
 
 -- what each status means for these texts
 abbrev pub RunMeansFor : RunRequest → RunTexts → Status → List ℕ → Type 0

@@ -4,7 +4,7 @@ use Rattle.std.specs.Prelude.{ℕ}
 use Rattle.cerco_base.specs.declared.outside.faults.IoFault.{IoFault}
 use Rattle.cerco_base.specs.declared.outside.faults.IoFault.TheVariants as Io
 use Rattle.cerco_command.specs.declared.status.Status.{Status}
-use Rattle.cerco_command.specs.declared.status.Status.TheVariants.{Done, NoFile, Usage, Refused, NoRoom, FileFault, OutFault, BadInput, Reserved, NoMemory}
+use Rattle.cerco_command.specs.declared.status.Status.TheVariants.{Done, NoFile, Usage, Refused, NoRoom, FileFault, OutFault, BadInput, Uncosted, Reserved, NoMemory}
 
 abbrev pub code_of : Status → ℕ
 code_of Done = 0
@@ -15,6 +15,7 @@ code_of NoRoom = 3
 code_of FileFault = 4
 code_of OutFault = 5
 code_of BadInput = 6
+code_of Uncosted = 7
 code_of Reserved = 8
 code_of NoMemory = 9
 

@@ -5,6 +5,7 @@ use Rattle.std.specs.Option.{option_or}
 use Rattle.std.specs.Str.Parse.{digits_value}
 use Rattle.cerco_command.specs.declared.words.BuildNames.{BuildNames}
 use Rattle.cerco_command.specs.declared.words.RunWords.{RunWords}
+use Rattle.cerco_command.specs.declared.words.ObjectNames.{ObjectNames}
 use Rattle.cerco_command.specs.declared.words.Command.{Command}
 
 -- a word that can name a file: it isn't empty and doesn't begin with `-`
@@ -27,11 +28,18 @@ pub record RunRequest : Type 0 where
   pub script : List ℕ
   pub limit : ℕ
 
+-- the files of an object: its code in Intel HEX, and the addresses of its labels
+pub record ObjectFiles : Type 0 where
+  pub hex : List ℕ
+  pub map : List ℕ
+
 -- what a command line asks for
 pub data Request : Type 0 where
   Builds : BuildFiles → Request
   Runs : RunRequest → Request
   Lists : List ℕ → Request
+  GivesCosts : ObjectFiles → Request
+  Erases : List ℕ → Request
 
 -- five words
 abbrev pub of_five : {R : Type 0} → (List ℕ → List ℕ → List ℕ → List ℕ → List ℕ → Option R) → List (List ℕ) → Option R
@@ -77,15 +85,30 @@ abbrev pub list_of : List (List ℕ) → Option (List ℕ)
 list_of (word ∷ hex ∷ []) = cond (bytes_eq word (codes "list") && is_name hex) (Some hex) None
 list_of words = None
 
+-- `costs` and two names
+abbrev pub costs_of : List (List ℕ) → Option ObjectFiles
+costs_of (word ∷ hex ∷ map ∷ []) = cond (bytes_eq word (codes "costs") && (is_name hex && is_name map)) (Some (record { hex = hex; map = map })) None
+costs_of words = None
+
+-- `erase` and a name
+abbrev pub erase_of : List (List ℕ) → Option (List ℕ)
+erase_of (word ∷ text ∷ []) = cond (bytes_eq word (codes "erase") && is_name text) (Some text) None
+erase_of words = None
+
 -- the request that the words are, none where they are no command
 abbrev pub request_of : List (List ℕ) → Option Request
-request_of words = option_or (option_map Builds (build_of words)) (option_or (option_map Runs (run_of words)) (option_map Lists (list_of words)))
+request_of words =
+    option_or (option_map Builds (build_of words))
+    (option_or (option_map Runs (run_of words))
+    (option_or (option_map Lists (list_of words))
+    (option_or (option_map GivesCosts (costs_of words))
+    (option_map Erases (erase_of words)))))
 
 -- what holds of every request that words are: the names of different files differ, and a number of cycles isn't too large
 abbrev pub IsWellFormed : Request → Type 0
 IsWellFormed (Builds files) = HaveDifferentNames files
 IsWellFormed (Runs files) = files.limit ≤ 1000000000
-IsWellFormed (Lists hex) = Unit {0}
+IsWellFormed request = Unit {0}
 
 -- the same names as texts
 abbrev pub files_of : BuildNames → BuildFiles
@@ -94,8 +117,13 @@ files_of names = record { source = string_bytes names.source; hex = string_bytes
 abbrev pub run_of_words : RunWords → RunRequest
 run_of_words words = record { hex = string_bytes words.hex; map = string_bytes words.map; script = string_bytes words.script; limit = words.limit }
 
+abbrev pub object_files_of : ObjectNames → ObjectFiles
+object_files_of names = record { hex = string_bytes names.hex; map = string_bytes names.map }
+
 -- the request that a command is
 abbrev pub request_in : Command → Request
 request_in (Command.Build names) = Builds (files_of names)
 request_in (Command.Run words) = Runs (run_of_words words)
 request_in (Command.List hex) = Lists (string_bytes hex)
+request_in (Command.Costs names) = GivesCosts (object_files_of names)
+request_in (Command.Erase text) = Erases (string_bytes text)

@@ -4,7 +4,7 @@ ghost use Rattle.std.specs.List.{IsDistinct};
 ghost use Rattle.cerco_base.specs.Outside.IoStates.{SameFiles};
 ghost use Rattle.object_hex.specs.HexMeaning.{IsHexText};
 ghost use Rattle.object_hex.specs.MapMeaning.{IsMapText};
-ghost use Rattle.cerco_command.specs.Inputs.{IsRead, CannotRead, longest, HasNoCode, HasNoLabels};
+ghost use Rattle.cerco_command.specs.Inputs.{IsRead, CannotRead, longest, HasNoCode, HasNoLabels, HasNoObject, AreObject};
 ghost use Rattle.cerco_command.specs.Messages.{bad_file};
 ghost use Rattle.cerco_command.specs.Code.Stages.{Replies};
 ghost use Rattle.cerco_command.specs.declared.status.Status.TheVariants as Is;
@@ -81,4 +81,27 @@ pub fn read_labels(alloc: Global, text: &[u8]) -> Result<LabelList, Reply>
         Err(MapError::Fault(fault)) => Err(bad_map(alloc, fault)),
         Err(MapError::OutOfMemory) => Err(silent(alloc, Status::NoMemory)),
     }
+}
+
+/// An object that was read.
+#[derive(Drop)]
+pub struct Object {
+    /// Its code.
+    pub code: Code,
+    /// The addresses of its labels.
+    pub labels: LabelList,
+}
+
+/// The object that a hex text and a text of addresses give.
+pub fn read_object(alloc: Global, hex: &[u8], map: &[u8]) -> Result<Object, Reply>
+    requires hex_short { length hex.now ≤ longest }
+    requires map_short { length map.now ≤ longest }
+    ensures object { IfOk result (λ object. AreObject hex.now map.now object.code object.labels) }
+    ensures short { IfOk result (λ object. length object.code ≤ 65536) }
+    ensures distinct { IfOk result (λ object. IsDistinct nat_eq object.labels) }
+    ensures cannot { IfErr result (λ reply. HasNoObject hex.now map.now reply.status (string_bytes reply.line)) }
+{
+    let code = read_code(alloc, hex)?;
+    let labels = read_labels(alloc, map)?;
+    Ok(Object { code, labels })
 }

@@ -10,6 +10,8 @@ ghost use Rattle.cerco_command.specs.Once.{MeansOnce};
 ghost use Rattle.cerco_command.specs.Complete.{BuildsAll};
 
 pub mod building;
+pub mod costs;
+pub mod erasing;
 pub mod inputs;
 pub mod line;
 pub mod listing;
@@ -22,6 +24,8 @@ pub mod words;
 
 use building::build;
 use cerco_base::{Files, Sink};
+use costs::costs;
+use erasing::erase;
 use listing::list;
 use reply::{answer, usage};
 use running::run;
@@ -38,6 +42,8 @@ fn obey<F: Files, O: Sink>(alloc: Global, command: &Command, files: &mut F, out:
         Command::Build(names) => answer(out, &build(alloc, names, files)),
         Command::Run(words) => run(alloc, words, files, out),
         Command::List(hex) => list(alloc, hex, files, out),
+        Command::Costs(names) => costs(alloc, names, files, out),
+        Command::Erase(text) => erase(alloc, text, files, out),
     }
 }
 

@@ -5,13 +5,13 @@ ghost use Rattle.cerco_base.specs.Outside.InMemory.{sound_sink_state};
 ghost use Rattle.sim51.specs.State.{reset};
 ghost use Rattle.sim51.specs.Runs.{Setup, setup_of};
 ghost use Rattle.cerco_command.specs.Answers.{Answers};
-ghost use Rattle.cerco_command.specs.Inputs.{CannotRead, longest, NoneTooLong, AreObject};
-ghost use Rattle.cerco_command.specs.Running.{names_of, texts_of, with_names, AreTextsOf, RunsTo, RunMeans, RunMeansFor, CannotLoad};
+ghost use Rattle.cerco_command.specs.Inputs.{CannotRead, longest, NoneTooLong, HasNoObject, AreObject};
+ghost use Rattle.cerco_command.specs.Running.{names_of, texts_of, with_names, AreTextsOf, RunsTo, RunMeans, RunMeansFor};
 ghost use Rattle.cerco_command.specs.Once.{StopsOnce};
 ghost use Rattle.cerco_command.specs.Code.Stages.{StepPrinted};
 ghost use Rattle.cerco_command.specs.Words.{run_of_words};
 
-use crate::inputs::{READ_LIMIT, check_length, read_code, read_input, read_labels};
+use crate::inputs::{READ_LIMIT, check_length, read_input, read_object};
 use crate::printing::{put_count, put_events, put_pending, put_reserved};
 use crate::reply::{Reply, answer, say, silent};
 use crate::status::Status;
@@ -54,11 +54,12 @@ fn load<'a>(alloc: Global, inputs: &'a Inputs) -> Result<Machine<'a>, Reply>
     requires map_short { length inputs.now.map.items ≤ longest }
     ensures loaded { IfOk result (λ machine. AreObject (texts_of inputs.now).hex (texts_of inputs.now).map machine.code machine.labels
         × (machine.state ≡ reset (texts_of inputs.now).script)) }
-    ensures cannot { IfErr result (λ reply. CannotLoad (texts_of inputs.now) reply.status (string_bytes reply.line)) }
+    ensures cannot { IfErr result (λ reply. HasNoObject (texts_of inputs.now).hex (texts_of inputs.now).map reply.status (string_bytes reply.line)) }
 {
-    let code = read_code(alloc, &inputs.hex)?;
-    let labels = read_labels(alloc, &inputs.map)?;
-    match Machine::load(alloc, code.as_slice(), labels.as_slice(), &inputs.script) {
+    let object = read_object(alloc, &inputs.hex, &inputs.map)?;
+    let code = object.code.as_slice();
+    let labels = object.labels.as_slice();
+    match Machine::load(alloc, code, labels, &inputs.script) {
         Ok(machine) => Ok(machine),
         Err(_) => Err(silent(alloc, Status::NoMemory)),
     }

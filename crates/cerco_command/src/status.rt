@@ -24,6 +24,8 @@ pub enum Status {
     OutFault,
     /// 6: a file is too long, or isn't a text of an object.
     BadInput,
+    /// 7: the start of an object, or one of its labels, has no single cost.
+    Uncosted,
     /// 8: the reserved opcode is met.
     Reserved,
     /// 9: there was no memory.
@@ -55,6 +57,7 @@ impl Status {
             Status::FileFault => 4,
             Status::OutFault => 5,
             Status::BadInput => 6,
+            Status::Uncosted => 7,
             Status::Reserved => 8,
             Status::NoMemory => 9,
         }

@@ -1,6 +1,6 @@
 //! The words of the command line.
 ghost use Rattle.std.specs.Prelude.{◌≡◌, ◌≢◌, ℕ, ◌≤◌, IfOk, IfErr, None, Some, MatchOption, string_bytes, map, option_map, decimal};
-ghost use Rattle.cerco_command.specs.Words.{is_name, all_differ, is_build, has_run_names, build_of, run_of, list_of, request_of, request_in, files_of, run_of_words, IsWellFormed};
+ghost use Rattle.cerco_command.specs.Words.{is_name, all_differ, is_build, has_run_names, build_of, run_of, list_of, costs_of, erase_of, request_of, request_in, files_of, run_of_words, object_files_of, IsWellFormed};
 ghost use Rattle.cerco_command.specs.declared.words.WordsFault.TheVariants.{Usage, OutOfMemory};
 
 use itoa::Buffer;
@@ -36,6 +36,15 @@ pub struct RunWords {
     pub limit: u32,
 }
 
+/// The names of the files of an object, which are read.
+#[derive(Drop)]
+pub struct ObjectNames {
+    /// The object, in Intel HEX.
+    pub hex: String,
+    /// The addresses of the labels.
+    pub map: String,
+}
+
 /// A command of the program.
 #[derive(Drop)]
 pub enum Command {
@@ -45,6 +54,10 @@ pub enum Command {
     Run(RunWords),
     /// Prints the instructions of an object, which has this name.
     List(String),
+    /// Prints the costs of an object's start and of its labels.
+    Costs(ObjectNames),
+    /// Prints an annotated text, which has this name, without its annotations.
+    Erase(String),
 }
 
 /// Why words aren't read as a command.
@@ -163,6 +176,35 @@ fn read_list(alloc: Global, words: &[String]) -> Result<Option<String>, AllocErr
     Ok(Some(String::from_str(alloc, hex)?))
 }
 
+// The names of a `costs`, none where the words are none.
+fn read_costs(alloc: Global, words: &[String]) -> Result<Option<ObjectNames>, AllocError>
+    ensures { IfOk result (λ names. option_map object_files_of names ≡ costs_of (map string_bytes words.now)) }
+{
+    let [word, hex, map] = words else {
+        return Ok(None);
+    };
+    if word.as_str() != "costs" || !is_name(hex) || !is_name(map) {
+        return Ok(None);
+    }
+    Ok(Some(ObjectNames {
+        hex: String::from_str(alloc, hex)?,
+        map: String::from_str(alloc, map)?,
+    }))
+}
+
+// The name of an `erase`, none where the words are none.
+fn read_erase(alloc: Global, words: &[String]) -> Result<Option<String>, AllocError>
+    ensures { IfOk result (λ name. option_map string_bytes name ≡ erase_of (map string_bytes words.now)) }
+{
+    let [word, text] = words else {
+        return Ok(None);
+    };
+    if word.as_str() != "erase" || !is_name(text) {
+        return Ok(None);
+    }
+    Ok(Some(String::from_str(alloc, text)?))
+}
+
 /// The command that the words after the program's name are.
 pub fn read_words(alloc: Global, words: &[String]) -> Result<Command, WordsFault>
     ensures command { IfOk result (λ command. Some (request_in command) ≡ request_of (map string_bytes words.now)) }
@@ -177,6 +219,12 @@ pub fn read_words(alloc: Global, words: &[String]) -> Result<Command, WordsFault
     }
     if let Some(hex) = read_list(alloc, words)? {
         return Ok(Command::List(hex));
+    }
+    if let Some(names) = read_costs(alloc, words)? {
+        return Ok(Command::Costs(names));
+    }
+    if let Some(text) = read_erase(alloc, words)? {
+        return Ok(Command::Erase(text));
     }
     Err(WordsFault::Usage)
 }

@@ -4,7 +4,7 @@ use crate::seeing::{EMPTY, see, split};
 use cerco_base::{MemoryFiles, MemorySink, NoMemory};
 use cerco_command::cerco;
 
-const USAGE: [&str; 14] = [
+const USAGE: [&str; 22] = [
     "",
     "build a b c",
     "build a b c d e",
@@ -19,6 +19,14 @@ const USAGE: [&str; 14] = [
     "list",
     "list -a",
     "list a a",
+    "costs",
+    "costs a",
+    "costs a b c",
+    "costs -a b",
+    "costs a -b",
+    "erase",
+    "erase a b",
+    "erase -a",
 ];
 
 #[test]

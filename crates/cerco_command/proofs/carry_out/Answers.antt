@@ -1,7 +1,7 @@
 use Rattle.std.proofs.Common.{[], map, string_bytes, Option, Some, None, refl, inl}
 use Rattle.cerco_base.specs.Outside.IoStates.{FilesState}
 use Rattle.cerco_command.specs.Top.{Means}
-use Rattle.cerco_command.specs.Words.{Request, Builds, Runs, Lists, request_of}
+use Rattle.cerco_command.specs.Words.{Request, Builds, Runs, Lists, GivesCosts, Erases, request_of}
 use Rattle.cerco_command.specs.declared.status.Status.TheVariants.{NoMemory}
 use Rattle.cerco_command.proofs.Answering.{answered, says_nothing}
 use Rattle.cerco_command.proofs.carry_out.Goals as goal
@@ -11,6 +11,8 @@ no_memory_meant : (r : Option Request) (s : FilesState) → Means r s s NoMemory
 no_memory_meant (Some (Builds files)) s = (refl, λ h. inl (λ q. refl))
 no_memory_meant (Some (Runs files)) s = record { same = λ h q. refl; means = inl refl }
 no_memory_meant (Some (Lists hex)) s = record { same = λ h q. refl; means = inl refl }
+no_memory_meant (Some (GivesCosts files)) s = record { same = λ h q. refl; means = inl refl }
+no_memory_meant (Some (Erases text)) s = record { same = λ h q. refl; means = inl refl }
 no_memory_meant None s = (refl, λ h q. refl)
 
 pub returns-in-Err-OutOfMemory : goal.returns-in-Err-OutOfMemory

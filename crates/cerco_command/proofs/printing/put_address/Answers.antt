@@ -1,18 +1,18 @@
 use Rattle.cerco_base.proofs.Putting.{begun}
 use Rattle.cerco_base.proofs.PuttingPieces.{piece_put, last_put, piece_failed}
-use Rattle.cerco_command.proofs.printing.put_reserved.Goals as goal
+use Rattle.cerco_command.proofs.printing.put_address.Goals as goal
 
 pub returns-in_err-put_all : goal.returns-in_err-put_all
-returns-in_err-put_all g c = piece_failed _ _ _ _ _ _ _ _ (begun _ _) c.in_err-put_all.ensures c.from_residual.ensures.1
+returns-in_err-put_all g c = rw (← c.as_bytes.ensures.value) (piece_failed _ _ _ _ _ _ _ _ (begun _ _) c.in_err-put_all.ensures c.from_residual.ensures.1)
 
 pub returns-in_err-put_all-2 : goal.returns-in_err-put_all-2
 returns-in_err-put_all-2 g c =
     let word = piece_put _ _ _ _ _ _ _ (begun _ _) c.in_ok-put_all.ensures in
     let address = rw c.hex_word.ensures at c.in_err-put_all-2.ensures in
-    piece_failed _ _ _ _ _ _ _ _ word address c.from_residual-in_err-put_all-2.ensures.1
+    rw (← c.as_bytes.ensures.value) (piece_failed _ _ _ _ _ _ _ _ word address c.from_residual-in_err-put_all-2.ensures.1)
 
 pub returns : goal.returns
 returns g c =
     let word = piece_put _ _ _ _ _ _ _ (begun _ _) c.in_ok-put_all.ensures in
     let address = piece_put _ _ _ _ _ _ _ word (rw c.hex_word.ensures at c.in_ok-put_all-2.ensures) in
-    last_put _ _ _ _ _ _ address c.put_all-3.ensures
+    rw (← c.as_bytes.ensures.value) (last_put _ _ _ _ _ _ address c.put_all-3.ensures)
