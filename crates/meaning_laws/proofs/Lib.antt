@@ -1,0 +1,3 @@
+pub mod Counting
+pub mod Entering
+pub mod Plain
