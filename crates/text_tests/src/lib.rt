@@ -1,4 +1,5 @@
-//! Tests of the texts at both ends of the compiler: the tokens of a source, the annotated source, and the texts of an object.
+//! Tests of the texts at both ends of the compiler: the tokens of a source, the generator's sources, the annotated
+//! source, and the texts of an object.
 #![tactic(auto)]
 
 #[cfg(test)]
@@ -7,5 +8,7 @@ mod annotated;
 mod objects;
 #[cfg(test)]
 mod read_back;
+#[cfg(test)]
+mod samples;
 #[cfg(test)]
 mod tokens_of_texts;
