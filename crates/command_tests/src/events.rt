@@ -42,8 +42,8 @@ const DO_LOOP: &str =
 const WHILE_BOTH: &str =
     "void main(void){unsigned char a;unsigned char b;a=P1;b=P1;while(a&&b){a=0;P1=b;}}";
 
-// A ring buffer whose last 16 readings are summed.
-const RING: &str = "unsigned char ring[32];
+/// A ring buffer whose last 16 readings are summed.
+pub const RING: &str = "unsigned char ring[32];
 unsigned char head;
 unsigned char tail;
 unsigned char fill;

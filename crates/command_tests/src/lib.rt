@@ -8,6 +8,8 @@ mod events;
 #[cfg(test)]
 mod faults;
 #[cfg(test)]
+mod hostile;
+#[cfg(test)]
 mod objects;
 #[cfg(test)]
 mod refusals;
