@@ -1,36 +1,10 @@
 //! The places of arguments and results.
 
-use cerco_base::{CallOrder, NoMemory, StartBytes};
+use crate::setters::{graph, program};
 use ertl_gen::to_ertl;
 use ltl_alloc::{Allocation, Spot, one_cell_each};
-use rtl::{ByteOp, Bytes, Exit, Graph, Node, Sequence, Vreg};
+use rtl::{ByteOp, Bytes, Vreg};
 use std::alloc::Global;
-
-// The graph of a function that sets these virtual registers.
-fn graph(alloc: Global, vregs: &[u32]) -> Result<Graph<Vreg>, NoMemory> {
-    let mut ops = Sequence::new(alloc);
-    for &v in vregs {
-        ops.push(ByteOp::Const(Vreg(v), 1))?;
-    }
-    let mut nodes = Sequence::new(alloc);
-    nodes.push(Node {
-        ops,
-        exit: Exit::Return,
-    })?;
-    Ok(Graph { entry: 0, nodes })
-}
-
-// The program of that function.
-fn program(alloc: Global, vregs: &[u32]) -> Result<Bytes<Vreg>, NoMemory> {
-    let mut graphs = Sequence::new(alloc);
-    graphs.push(graph(alloc, vregs)?)?;
-    Ok(Bytes {
-        graphs,
-        calls: CallOrder::new(alloc),
-        main: 0,
-        start: StartBytes::new(alloc),
-    })
-}
 
 // The first virtual register that a program sets.
 fn first_set(program: &Bytes<Vreg>) -> Option<u32> {

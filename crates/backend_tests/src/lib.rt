@@ -12,3 +12,4 @@ mod jumps;
 mod lists;
 #[cfg(test)]
 mod readers;
+pub mod setters;

@@ -1,6 +1,7 @@
 //! Tests of the whole compiler: sources, their objects and their costs.
 #![tactic(auto)]
 
+pub mod lengths;
 #[cfg(test)]
 mod operators;
 #[cfg(test)]

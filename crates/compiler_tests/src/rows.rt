@@ -1,6 +1,7 @@
 //! Sources whose runs, objects or refusals are known.
 
-use crate::runs::{run, run_with_length};
+use crate::lengths::code_length;
+use crate::runs::run;
 use cerco_base::{Fault, NameKind, NoMemory, Reason, TypeKind};
 use cerco_pipeline::{Compiled, compile};
 use std::alloc::Global;
@@ -189,10 +190,10 @@ fn repeated(
 
 // The events of the run of a text whose code has more bytes than so many; of another one the empty text.
 fn events_of_long(alloc: Global, text: &str, script: &[u8], least: usize) -> Result<String, Fault> {
-    let (told, length) = run_with_length(alloc, text.as_bytes(), script)?;
-    if length <= least {
+    if code_length(alloc, text.as_bytes())? <= least {
         return Ok(String::new(alloc));
     }
+    let told = run(alloc, text.as_bytes(), script)?;
     Ok(events_of(alloc, &told)?)
 }
 

@@ -213,30 +213,10 @@ fn told_of(alloc: Global, compiled: &Compiled, script: &[u8]) -> Result<String, 
     }
 }
 
-// What is told of a run, with how many bytes of code there are.
-fn told_with_length(
-    alloc: Global,
-    compiled: &Compiled,
-    script: &[u8],
-) -> Result<(String, usize), Fault> {
-    let told = told_of(alloc, compiled, script)?;
-    Ok((told, compiled.code().len()))
-}
-
-/// What is told of the run of a text on a script, and how many bytes of code it has.
-pub fn run_with_length(
-    alloc: Global,
-    text: &[u8],
-    script: &[u8],
-) -> Result<(String, usize), Fault> {
-    let compiled = compile(alloc, text)?;
-    told_with_length(alloc, &compiled, script)
-}
-
 /// What is told of the run of a text on a script.
 pub fn run(alloc: Global, text: &[u8], script: &[u8]) -> Result<String, Fault> {
-    let (told, _) = run_with_length(alloc, text, script)?;
-    Ok(told)
+    let compiled = compile(alloc, text)?;
+    Ok(told_of(alloc, &compiled, script)?)
 }
 
 // Whether object and meaning agree on these scripts. A run that reads nothing is the same on all of them.
