@@ -6,7 +6,7 @@ use Rattle.cerco_base.specs.declared.outside.faults.IoFault.{IoFault}
 use Rattle.cerco_base.specs.declared.outside.faults.IoFault.TheVariants as Io
 use Rattle.cerco_base.proofs.Putting.{SoFar, keeps_on, adds_on, keeps_same, rose_since}
 use Rattle.cerco_command.specs.Answers.{FellShort, Says, Answers}
-use Rattle.cerco_command.specs.Code.Stages.{PutsFront}
+pub use Rattle.printed_lines.proofs.Fronts.{front_put}
 use Rattle.cerco_command.specs.Status.{status_of}
 use Rattle.cerco_command.specs.declared.status.Status.{Status}
 use Rattle.cerco_command.specs.declared.status.Status.TheVariants.{OutFault, NoMemory}
@@ -80,13 +80,3 @@ pending_cut {X} o p q text pending more meant fault a puts =
       some = let l = length-append pending more in let some = puts.some in omega arith;
     } in
     says_rest o p q (text ++ more) (pending ++ more) meant (status_of fault) (so_far_more o p text pending more a) (cut p q meant (pending ++ more) fault longer)
-
--- a front of what is pending is put
-pub front_put : (o p q : SinkState) (text before after : List ℕ) → SoFar o p text before → PutsFront p q before after → SoFar o q text after
-front_put o p q text before after a f =
-    record {
-      keeps = keeps_on o p q a.keeps f.keeps;
-      front = a.front ++ f.front;
-      whole = append_assoc a.front f.front after ∙ (ap (λ (x : List ℕ). a.front ++ x) f.whole ∙ a.whole);
-      added = adds_on o p q a.front f.front a.keeps a.added f.added;
-    }

@@ -18,7 +18,7 @@ use Rattle.cerco_command.specs.Answers.{AreWritten, ArePartlyWritten}
 use Rattle.cerco_command.specs.Building.{AreCompiled, outputs, SaysRefused, SaysNoRoom, Builds, PartlyBuilds, IsOutput, BuildMeans}
 use Rattle.cerco_command.specs.Inputs.{IsRead, CannotRead}
 use Rattle.cerco_command.specs.Messages.{no_file}
-use Rattle.cerco_command.specs.Code.Stages.{Replies, IsNameOf, Finishes, BuildsOn}
+use Rattle.cerco_command.specs.Code.Stages.{Replies, SaysWhy, IsNameOf, Finishes, BuildsOn}
 use Rattle.cerco_command.proofs.Writing.{written_from, partly_from}
 use Rattle.cerco_command.specs.declared.status.Status.{Status}
 use Rattle.cerco_command.specs.declared.status.Status.TheVariants.{Done, NoFile, Refused, NoRoom, FileFault, NoMemory}
@@ -59,7 +59,7 @@ different files h =
     }
 
 -- a source that is short enough was read whole
-whole : (text all : List ℕ) → text ≡ take 65536 all → length text ≤ 65535 → text ≡ all
+pub whole : (text all : List ℕ) → text ≡ take 65536 all → length text ≤ 65535 → text ≡ all
 whole text all e short =
     let size : length text ≡ length (take 65536 all) = ap length e in
     let front = length-take 65536 all in
@@ -102,10 +102,10 @@ whole_first : (text all : List ℕ) (reason : Reason) → text ≡ take 65536 al
 whole_first text all reason e (inl h) = inl (whole_reason text all reason e h)
 whole_first text all reason e (inr h) = inr (whole_unsoundness text all reason e h)
 
-whole_refused : (text all line : List ℕ) → text ≡ take 65536 all → SaysRefused text line → SaysRefused all line
+pub whole_refused : (text all line : List ℕ) → text ≡ take 65536 all → SaysRefused text line → SaysRefused all line
 whole_refused text all line e h = (h.0, whole_first text all h.0 e h.1, h.2)
 
-whole_no_room : (text all line : List ℕ) → text ≡ take 65536 all → SaysNoRoom text line → SaysNoRoom all line
+pub whole_no_room : (text all line : List ℕ) → text ≡ take 65536 all → SaysNoRoom text line → SaysNoRoom all line
 whole_no_room text all line e h = subst (λ (t : List ℕ). SaysNoRoom t line) (whole text all e h.is_program.is_tree.tokens.source.short) h
 
 -- the texts of the source are made, and written or not
@@ -181,25 +181,28 @@ answered_on files text s meant status said line b (inl e) =
 answered_on files text s meant status said line b (inr e) = subst (λ (st : Status). BuildsOn files text s s st line) (sym e.0) (inl (e.1, λ known q. refl))
 
 -- the source has a reason, or is too big
-refused_on : (files : BuildFiles) (text : List ℕ) (reason : Reason) (s : FilesState) → IsRefused text reason → (HasRoomByText text → ⊥) → BuildsOn files text s s (status_of_refusal reason) (line_of.refused reason)
-refused_on files text (r.CellsFull need) s h free =
-    (record { program = h.0; is_program = h.1; reason = r.CellsFull need; lacks = h.2; line_is = refl; not_by_text = free }, λ known q. refl)
-refused_on files text (r.CodeFull len) s h free =
-    (record { program = h.0; is_program = h.1; reason = r.CodeFull len; lacks = h.2; line_is = refl; not_by_text = free }, λ known q. refl)
-refused_on files text r.TooLong s h free = ((r.TooLong, h, refl), λ known q. refl)
-refused_on files text (r.Byte at) s h free = ((r.Byte at, h, refl), λ known q. refl)
-refused_on files text (r.Marker at) s h free = ((r.Marker at, h, refl), λ known q. refl)
-refused_on files text (r.Token at) s h free = ((r.Token at, h, refl), λ known q. refl)
-refused_on files text (r.Syntax at) s h free = ((r.Syntax at, h, refl), λ known q. refl)
-refused_on files text (r.Nesting at) s h free = ((r.Nesting at, h, refl), λ known q. refl)
-refused_on files text (r.Name at kind) s h free = ((r.Name at kind, h, refl), λ known q. refl)
-refused_on files text (r.Typing at kind) s h free = ((r.Typing at kind, h, refl), λ known q. refl)
-refused_on files text (r.Recursion at) s h free = ((r.Recursion at, h, refl), λ known q. refl)
-refused_on files text (r.StackFull depth) s h free = ((r.StackFull depth, h, refl), λ known q. refl)
-refused_on files text (r.DataFull total) s h free = ((r.DataFull total, h, refl), λ known q. refl)
+pub says_why : (text : List ℕ) (reason : Reason) → IsRefused text reason → (HasRoomByText text → ⊥) → SaysWhy text (status_of_refusal reason) (line_of.refused reason)
+says_why text (r.CellsFull need) h free = record { program = h.0; is_program = h.1; reason = r.CellsFull need; lacks = h.2; line_is = refl; not_by_text = free }
+says_why text (r.CodeFull len) h free = record { program = h.0; is_program = h.1; reason = r.CodeFull len; lacks = h.2; line_is = refl; not_by_text = free }
+says_why text r.TooLong h free = (r.TooLong, h, refl)
+says_why text (r.Byte at) h free = (r.Byte at, h, refl)
+says_why text (r.Marker at) h free = (r.Marker at, h, refl)
+says_why text (r.Token at) h free = (r.Token at, h, refl)
+says_why text (r.Syntax at) h free = (r.Syntax at, h, refl)
+says_why text (r.Nesting at) h free = (r.Nesting at, h, refl)
+says_why text (r.Name at kind) h free = (r.Name at kind, h, refl)
+says_why text (r.Typing at kind) h free = (r.Typing at kind, h, refl)
+says_why text (r.Recursion at) h free = (r.Recursion at, h, refl)
+says_why text (r.StackFull depth) h free = (r.StackFull depth, h, refl)
+says_why text (r.DataFull total) h free = (r.DataFull total, h, refl)
+
+refused_on : (files : BuildFiles) (text : List ℕ) (s : FilesState) (status : Status) (line : List ℕ) → SaysWhy text status line → BuildsOn files text s s status line
+refused_on files text s Refused line h = (h, λ known q. refl)
+refused_on files text s NoRoom line h = (h, λ known q. refl)
+refused_on files text s status line h = absurd h
 
 pub turned_down : (files : BuildFiles) (text : List ℕ) (reason : Reason) (s : FilesState) (status : Status) (line : List ℕ) → IsRefused text reason → (HasRoomByText text → ⊥) → Replies (status_of_refusal reason) (line_of.refused reason) status line → BuildsOn files text s s status line
-turned_down files text reason s status line h free says = answered_on files text s (status_of_refusal reason) status (line_of.refused reason) line (refused_on files text reason s h free) says
+turned_down files text reason s status line h free says = answered_on files text s (status_of_refusal reason) status (line_of.refused reason) line (refused_on files text s (status_of_refusal reason) (line_of.refused reason) (says_why text reason h free)) says
 
 -- the source couldn't be read
 pub not_built : (files : BuildFiles) (s t : FilesState) (status : Status) (line : List ℕ) → (IsTrue s.known → SameFiles s t) → CannotRead (files.source ∷ []) s t status line → BuildMeans files s t status line

@@ -1,5 +1,5 @@
 -- What a source is built to, and the texts that are made of it, keep the promise.
-use Rattle.std.proofs.Common.{◌≡◌, ℕ, suc, ◌+◌, ◌<◌, ◌≤◌, List, [], ◌∷◌, ◌++◌, IsTrue, Result, Ok, Err, Some, refl, sym, ap, ap₂, subst, ◌∙◌, arith, length, slice_get, slice_index}
+use Rattle.std.proofs.Common.{◌≡◌, ℕ, suc, ◌+◌, ◌<◌, ◌≤◌, List, [], ◌∷◌, ◌++◌, IsTrue, Result, Ok, Err, refl, sym, ap, ap₂, subst, ◌∙◌, arith, length, slice_get, slice_index}
 use Rattle.std.specs.Prelude.{unwrap_or, sum_by}
 use Rattle.std.proofs.lemmas.List.Sums.{sum_by-cons}
 use Rattle.std.proofs.lemmas.Option.{unwrap_or-slice_get}
@@ -11,8 +11,7 @@ use Rattle.cerco_base.specs.declared.events.Label.{Label}
 use Rattle.cerco_base.specs.declared.outside.faults.IoFault.{IoFault}
 use Rattle.cerco_traces.specs.Preservation.{Outcome, Stops, Faults, Source}
 use Rattle.cerco_traces.specs.Headline.{ArrivesWith, KeepsTo, Headline}
-use Rattle.sim51.specs.Runs.{Running, object, cycles_of_run}
-use Rattle.asm51.specs.Emission.{labels_of}
+use Rattle.sim51.specs.Runs.{object, cycles_of_run}
 use Rattle.object_hex.specs.HexText.{hex_text}
 use Rattle.object_hex.specs.MapText.{map_text}
 use Rattle.object_hex.specs.HexMeaning.{IsHexText}
@@ -22,13 +21,12 @@ use Rattle.object_hex.specs.MapMeaning.{IsMapText}
 use Rattle.clight_syntax.specs.Annotations.{Costs}
 use Rattle.clight_syntax.specs.Annotations.{annotated as annotated_text}
 use Rattle.clight_syntax.specs.declared.points.Point.{Point}
-use Rattle.clight_syntax.specs.Labelling.{points_of}
 use Rattle.clight_syntax.specs.TypedTrees.{TypedProgram}
 use Rattle.block_costs.specs.Sums.{cost_of_events, event_cost}
 use Rattle.annotate.specs.Numbers.{numbers, label_cost_in, start_cost_in, cost_at}
 use Rattle.annotate.specs.Numbers as annotate
 use Rattle.cerco_pipeline.specs.Built.{IsChainOf, IsBuilt}
-use Rattle.cerco_command.specs.Building.{IsCompiled, AreCompiled}
+use Rattle.cerco_command.specs.Building.{AreCompiled}
 use Rattle.cerco_command.specs.Code.Stages.{MayStand, IsAnnotatedText}
 use Rattle.cerco_command.proofs.Objects.{length-code_of, may_stand}
 

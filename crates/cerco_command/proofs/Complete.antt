@@ -1,15 +1,15 @@
 -- A source that has room is built, from what an answer means.
-use Rattle.std.proofs.Common.{◌≡◌, ℕ, List, Option, Some, None, IsTrue, refl, sym, ap, subst, ◌∙◌, inl, inr, ◌⊎◌}
+use Rattle.std.proofs.Common.{◌≡◌, ℕ, List, Option, Some, None, IsTrue, refl, sym, subst, inl, inr, ◌⊎◌}
 use Rattle.cerco_base.specs.Outside.IoFaults.{Rose}
 use Rattle.cerco_base.specs.Outside.IoStates.{FilesState, SinkState}
 use Rattle.cerco_base.specs.Outside.IoCalls.{Adds, AddsPrefix}
 use Rattle.cerco_pipeline.specs.Programs.{HasRoomByText}
 use Rattle.cerco_command.specs.Answers.{FellShort, Answers}
-use Rattle.cerco_command.specs.Building.{SaysRefused, SaysNoRoom, BuildMeans}
+use Rattle.cerco_command.specs.Building.{SaysRefused, BuildMeans}
 use Rattle.cerco_command.specs.Complete.{HasRoomUnder, IsDone, BuildsAll}
 use Rattle.cerco_command.specs.Status.{code_of}
 use Rattle.cerco_command.specs.Top.{Means}
-use Rattle.cerco_command.specs.Words.{BuildFiles, Request, Builds, Runs, Lists, GivesCosts, Erases}
+use Rattle.cerco_command.specs.Words.{BuildFiles, Request, Builds, Runs, Lists, GivesCosts, Erases, Tells}
 use Rattle.cerco_command.specs.declared.status.Status.{Status}
 use Rattle.cerco_command.specs.declared.status.Status.TheVariants.{Done, NoFile, Refused, NoRoom, FileFault, OutFault, NoMemory}
 use Rattle.cerco_command.proofs.OneTree.{program_or_reason}
@@ -59,4 +59,5 @@ builds_all (Some (Runs words)) s t o p status a = tt
 builds_all (Some (Lists hex)) s t o p status a = tt
 builds_all (Some (GivesCosts files)) s t o p status a = tt
 builds_all (Some (Erases text)) s t o p status a = tt
+builds_all (Some (Tells words)) s t o p status a = tt
 builds_all None s t o p status a = tt

@@ -14,6 +14,7 @@ mod ListOnce
 mod OneCase
 mod CostTexts
 mod CostsOnce
+mod Meanings
 mod Once
 mod Complete
 mod ListSteps

@@ -1,5 +1,5 @@
 -- The object of an assembly program, as its texts want it: how long its code is, and that its labels stand at different addresses.
-use Rattle.std.proofs.Common.{◌≡◌, ◌≢◌, ℕ, zero, suc, ◌+◌, ◌%◌, ◌<◌, ◌≤◌, List, [], ◌∷◌, Option, Some, None, true, eqb, refl, sym, ap, ap₂, subst, ◌∙◌, arith, All, get_or, length, take, take_all, drop, slice_get, slice_index, length-append}
+use Rattle.std.proofs.Common.{◌≡◌, ℕ, suc, ◌+◌, ◌%◌, ◌<◌, List, [], ◌∷◌, Option, Some, None, true, eqb, refl, sym, ap, ap₂, ◌∙◌, arith, All, get_or, length, take_all, drop, slice_index, length-append}
 use Rattle.std.specs.List.{range_with_len, IsDistinct, list_any}
 use Rattle.std.proofs.lemmas.Bool.{eqb-true, ne_eqb}
 use Rattle.std.proofs.lemmas.List.{get_or_default}
@@ -13,7 +13,6 @@ use Rattle.sim51.specs.Placed.{code_of_instrs}
 use Rattle.sim51.specs.Step.{label_at}
 use Rattle.sim51.proofs.Placed.{length-code_of_instrs}
 use Rattle.asm51.specs.declared.items.AsmItem.{AsmItem}
-use Rattle.asm51.specs.declared.items.AsmItem.TheVariants.{Mark}
 use Rattle.asm51.specs.declared.layouts.Form.{Form}
 use Rattle.asm51.specs.declared.layouts.JumpLayout.{JumpLayout}
 use Rattle.asm51.specs.Instructions.{instructions}

@@ -10,10 +10,11 @@ use Rattle.cerco_command.specs.Messages.{no_file, bad_file}
 use Rattle.cerco_command.specs.Once.{IsFirm, MeansOnce}
 use Rattle.cerco_command.specs.Running.{RunTexts, RunsTo, PrintsRun, AreTextsOf, names_of, with_names, RunMeans, RunMeansFor}
 use Rattle.cerco_command.specs.Top.{Means, UsageMeans}
-use Rattle.cerco_command.specs.Words.{BuildFiles, RunRequest, Request, Builds, Runs, Lists, GivesCosts, Erases}
+use Rattle.cerco_command.specs.Words.{BuildFiles, RunRequest, Request, Builds, Runs, Lists, GivesCosts, Erases, Tells}
 use Rattle.cerco_command.specs.declared.status.Status.{Status}
 use Rattle.cerco_command.specs.declared.status.Status.TheVariants.{Done, NoFile, Usage, Refused, NoRoom, FileFault, BadInput, Reserved, NoMemory}
 use Rattle.cerco_command.proofs.CostsOnce.{costs_once}
+use Rattle.cerco_command.proofs.Meanings.{meaning_once}
 use Rattle.cerco_command.proofs.OneCase.{one_code, one_map, map_or_fault, no_map, one_text, one_missing, unread, one_too_long, none_too_long, Cases, too_long, bad_hex_line, bad_map_line, works, one_case, one_read}
 use Rattle.cerco_command.proofs.RunOnce.{one_stop}
 use Rattle.cerco_command.proofs.ListOnce.{one_listing}
@@ -166,4 +167,5 @@ means_once (Some (Runs names)) = run_once names
 means_once (Some (Lists hex)) = list_once hex
 means_once (Some (GivesCosts files)) = costs_once files
 means_once (Some (Erases text)) = erase_once text
+means_once (Some (Tells words)) = meaning_once words
 means_once None = usage_once

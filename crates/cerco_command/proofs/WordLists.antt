@@ -1,11 +1,11 @@
--- Lists of five words and of two, and what holds of the requests that words are.
+-- Lists of five words, of four and of two, and what holds of the requests that words are.
 use Rattle.std.proofs.Common.{◌≡◌, ℕ, ◌<◌, ◌≤◌, List, [], ◌∷◌, length, map, refl, sym, ap, subst, ◌∙◌, arith, Option, None, Some, Bool, true, false, not, ◌&&◌, cond, bytes_eq, codes, get_or}
 use Rattle.std.specs.Prelude.{nat_le, decimal, ◌≢◌}
 use Rattle.std.specs.Str.Parse.{digits_value}
 use Rattle.std.proofs.lemmas.Bool.{leb-true, le-leb, true≢false}
 use Rattle.std.proofs.lemmas.Fmt.{decimal_is_IsNumeral}
 use Rattle.std.proofs.lemmas.Slice.Eq.{bytes_eq-Decides}
-use Rattle.cerco_command.specs.Words.{BuildFiles, RunRequest, HaveDifferentNames, of_five, build_of, is_build, is_name, has_run_names, is_limit, run_of}
+use Rattle.cerco_command.specs.Words.{BuildFiles, RunRequest, HaveDifferentNames, of_five, of_four, build_of, is_build, is_name, has_run_names, is_limit, run_of}
 
 pub five_short : {X R : Type 0} (read : List ℕ → List ℕ → List ℕ → List ℕ → List ℕ → Option R) (f : X → List ℕ) (ws : List X) → length ws < 5 → of_five read (map f ws) ≡ None
 five_short read f [] h = refl
@@ -34,7 +34,31 @@ five_there read f (x₀ ∷ x₁ ∷ x₂ ∷ x₃ ∷ []) w i h m a l₁ l₂ e
 five_there read f (x₀ ∷ x₁ ∷ x₂ ∷ x₃ ∷ x₄ ∷ []) w i h m a l₁ l₂ e₀ e₁ e₂ e₃ e₄ = rw (← e₀, ← e₁, ← e₂, ← e₃, ← e₄) refl
 five_there read f (x₀ ∷ x₁ ∷ x₂ ∷ x₃ ∷ x₄ ∷ x₅ ∷ ws) w i h m a l₁ l₂ e₀ e₁ e₂ e₃ e₄ = absurd (omega arith)
 
--- a word that is a number of cycles
+-- the same for four words
+pub four_short : {X R : Type 0} (read : List ℕ → List ℕ → List ℕ → List ℕ → Option R) (f : X → List ℕ) (ws : List X) → length ws < 4 → of_four read (map f ws) ≡ None
+four_short read f [] h = refl
+four_short read f (a ∷ []) h = refl
+four_short read f (a ∷ b ∷ []) h = refl
+four_short read f (a ∷ b ∷ c ∷ []) h = refl
+four_short read f (a ∷ b ∷ c ∷ d ∷ ws) h = absurd (omega arith)
+
+pub four_long : {X R : Type 0} (read : List ℕ → List ℕ → List ℕ → List ℕ → Option R) (f : X → List ℕ) (ws : List X) → 5 ≤ length ws → of_four read (map f ws) ≡ None
+four_long read f [] h = refl
+four_long read f (a ∷ []) h = refl
+four_long read f (a ∷ b ∷ []) h = refl
+four_long read f (a ∷ b ∷ c ∷ []) h = refl
+four_long read f (a ∷ b ∷ c ∷ d ∷ []) h = absurd (omega arith)
+four_long read f (a ∷ b ∷ c ∷ d ∷ e ∷ ws) h = refl
+
+pub four_there : {X R : Type 0} (read : List ℕ → List ℕ → List ℕ → List ℕ → Option R) (f : X → List ℕ) (ws : List X) (w i h m : X) → 4 ≤ length ws → length ws < 5 → w ≡ get_or ws 0 w → i ≡ get_or ws 1 i → h ≡ get_or ws 2 h → m ≡ get_or ws 3 m → of_four read (map f ws) ≡ read (f w) (f i) (f h) (f m)
+four_there read f [] w i h m l₁ l₂ e₀ e₁ e₂ e₃ = absurd (omega arith)
+four_there read f (x₀ ∷ []) w i h m l₁ l₂ e₀ e₁ e₂ e₃ = absurd (omega arith)
+four_there read f (x₀ ∷ x₁ ∷ []) w i h m l₁ l₂ e₀ e₁ e₂ e₃ = absurd (omega arith)
+four_there read f (x₀ ∷ x₁ ∷ x₂ ∷ []) w i h m l₁ l₂ e₀ e₁ e₂ e₃ = absurd (omega arith)
+four_there read f (x₀ ∷ x₁ ∷ x₂ ∷ x₃ ∷ []) w i h m l₁ l₂ e₀ e₁ e₂ e₃ = rw (← e₀, ← e₁, ← e₂, ← e₃) refl
+four_there read f (x₀ ∷ x₁ ∷ x₂ ∷ x₃ ∷ x₄ ∷ ws) w i h m l₁ l₂ e₀ e₁ e₂ e₃ = absurd (omega arith)
+
+-- a word that is a number of cycles or of labels
 pub limit_some : (word : List ℕ) (n : ℕ) → n ≤ 1000000000 → word ≡ decimal n → (is_limit word ≡ true) × (digits_value 10 word ≡ n)
 limit_some word n small e = (is (sym value), value)
   where

@@ -1,6 +1,6 @@
 -- What the program answers, whatever the command: its status, what it puts to its output, and files that it writes one after
 -- the other. (The compiler's own.)
-use Rattle.std.specs.Prelude.{◌≡◌, ℕ, ◌<◌, List, [], ◌∷◌, ◌⊎◌, length}
+use Rattle.std.specs.Prelude.{◌≡◌, ℕ, ◌<◌, ◌≤◌, IsTrue, List, [], ◌∷◌, ◌⊎◌, length}
 use Rattle.cerco_base.specs.Outside.IoFaults.{Rose}
 use Rattle.cerco_base.specs.Outside.IoStates.{FilesState, SinkState, SameFiles, Puts}
 use Rattle.cerco_base.specs.Outside.IoCalls.{Keeps, Adds, AddsPrefix}
@@ -12,6 +12,11 @@ use Rattle.cerco_command.specs.Status.{code_of}
 -- a name and the text that is to stand under it
 abbrev pub NamedText : Type 0
 NamedText = List ℕ × List ℕ
+
+-- what each command keeps of the files that it is given: the count of their faults never falls, and contents that are known stay known
+pub record KeepsFiles (s t : FilesState) : Type 0 where
+  pub later : s.faults ≤ t.faults
+  pub known : IsTrue s.known → IsTrue t.known
 
 -- these texts stand under their names, written in this order, and every other name is as it was
 abbrev pub AreWritten : List NamedText → FilesState → FilesState → Type 0

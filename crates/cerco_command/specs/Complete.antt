@@ -1,5 +1,5 @@
 -- That `build` refuses no source for which there is room. (The compiler's own; in CerCo, deliverable 2.1, the compiler may fail.)
-use Rattle.std.specs.Prelude.{◌≡◌, ℕ, List, Option, Some, None, IsTrue, ◌⊎◌}
+use Rattle.std.specs.Prelude.{◌≡◌, ℕ, List, Option, Some, IsTrue, ◌⊎◌}
 use Rattle.cerco_base.specs.Outside.IoFaults.{Rose}
 use Rattle.cerco_base.specs.Outside.IoStates.{FilesState, SinkState}
 use Rattle.cerco_pipeline.specs.Programs.{HasRoomByText}

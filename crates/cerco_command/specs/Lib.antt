@@ -9,6 +9,7 @@ pub mod Running
 pub mod Disassembly
 pub mod Costs
 pub mod Erasing
+pub mod Telling
 pub mod Top
 pub mod Once
 pub mod Complete

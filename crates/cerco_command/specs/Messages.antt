@@ -2,6 +2,7 @@
 -- hexadecimal digits in upper case.
 use Rattle.std.specs.Prelude.{ℕ, List, [], ◌++◌, Option, Some, None, codes, decimal}
 use Rattle.std.specs.List.{flat_map}
+pub use Rattle.printed_lines.specs.Lines.{line_about, pair_line, end_line, stop_line}
 use Rattle.cerco_base.specs.declared.events.Port.{Port}
 use Rattle.cerco_base.specs.declared.events.Event.{Event}
 use Rattle.cerco_base.specs.declared.events.Event.TheVariants.{Label, Read, Write}
@@ -13,10 +14,6 @@ use Rattle.object_hex.specs.declared.reading.faults.MapFault.{MapFault}
 use Rattle.cerco_base.specs.Ports.{port_number}
 use Rattle.block_costs.specs.declared.faults.CostFault.{CostFault}
 use Rattle.block_costs.specs.declared.faults.CostFault.TheVariants as Fault
-
--- a word of the program's own, and what it is about
-abbrev pub line_about : List ℕ → List ℕ → List ℕ
-line_about word about = word ++ (about ++ codes "\n")
 
 -- the words are no command
 abbrev pub usage : List ℕ
@@ -81,13 +78,6 @@ fault_line (Fault.Second at) = line_about (codes "second ") (hex_word at)
 abbrev pub uncosted_line : List ℕ → CostFault → List ℕ
 uncosted_line name fault = codes "uncosted " ++ (name ++ (codes " " ++ fault_line fault))
 
--- a machine has halted after some cycles, or was stopped
-abbrev pub end_line : ℕ → List ℕ
-end_line cycles = line_about (codes "end ") (decimal cycles)
-
-abbrev pub stop_line : ℕ → List ℕ
-stop_line cycles = line_about (codes "stop ") (decimal cycles)
-
 -- the number of a port and a byte there, and the cycles before the instruction
 abbrev pub port_line : List ℕ → ℕ → ℕ → ℕ → List ℕ
 port_line letter port byte cycles = letter ++ (decimal port ++ (codes " " ++ (decimal byte ++ (codes " " ++ (decimal cycles ++ codes "\n")))))
@@ -99,7 +89,7 @@ port_lines letter (Some seen) cycles = port_line letter (port_number seen.0) see
 
 -- an event, and the cycles before the instruction that makes it: a label that is passed, the reading of a port, the writing of one
 abbrev pub event_line : ℕ → Event → List ℕ
-event_line cycles (Label label) = codes "L" ++ (decimal label.0 ++ (codes " " ++ (decimal cycles ++ codes "\n")))
+event_line cycles (Label label) = pair_line (codes "L") label.0 cycles
 event_line cycles (Read port byte) = port_line (codes "R") (port_number port) byte cycles
 event_line cycles (Write port byte) = port_line (codes "P") (port_number port) byte cycles
 

@@ -15,6 +15,7 @@ IsFirm Is.FileFault = ⊥
 IsFirm Is.OutFault = ⊥
 IsFirm Is.NoMemory = ⊥
 IsFirm Is.NoRoom = ⊥
+IsFirm Is.Told = ⊥
 IsFirm status = Unit {0}
 
 -- Over files whose contents are known, one firm status at most is meant, with one text: the causes of different answers

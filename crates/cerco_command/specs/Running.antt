@@ -1,14 +1,11 @@
 -- What `run` prints: the events of the machine from reset, each with the cycles before the instruction that makes it, to the run's
 -- stop. (Intel, MCS-51 family, by the definition of the machine; the lines are the compiler's own.)
-use Rattle.std.specs.Prelude.{◌≡◌, ℕ, zero, suc, ◌<◌, ◌≤◌, ◌⊎◌, List, [], ◌∷◌, ◌++◌, map, IsTrue}
+use Rattle.std.specs.Prelude.{◌≡◌, ℕ, ◌<◌, ◌≤◌, ◌⊎◌, List, [], ◌∷◌, ◌++◌, IsTrue}
 use Rattle.std.specs.List.{flat_map}
-use Rattle.cerco_base.specs.declared.events.Event.{Event}
 use Rattle.cerco_base.specs.Outside.IoStates.{FilesState, SameFiles}
-use Rattle.cerco_traces.specs.Headline.{after}
 use Rattle.sim51.specs.State.{State}
-use Rattle.sim51.specs.Step.{Moved, Halts, Reserved, Goes, step}
-use Rattle.sim51.specs.Runs.{object, events_of, Setup, setup_of, state_after, step_after, trace}
-use Rattle.sim51.specs.State.{LoadedMachine}
+use Rattle.sim51.specs.Step.{Moved, Halts, Reserved, Goes}
+use Rattle.sim51.specs.Runs.{Setup, state_after, step_after, trace}
 use Rattle.cerco_command.specs.Answers.{NamedText}
 use Rattle.cerco_command.specs.Messages.{event_line, end_line, stop_line, reserved_line}
 use Rattle.cerco_command.specs.Inputs.{CannotRead, HasText, NoneTooLong, SaysTooLong, SaysBadObject, AreObject}

@@ -4,10 +4,11 @@ use Rattle.std.specs.Prelude.{ℕ}
 use Rattle.cerco_base.specs.declared.outside.faults.IoFault.{IoFault}
 use Rattle.cerco_base.specs.declared.outside.faults.IoFault.TheVariants as Io
 use Rattle.cerco_command.specs.declared.status.Status.{Status}
-use Rattle.cerco_command.specs.declared.status.Status.TheVariants.{Done, NoFile, Usage, Refused, NoRoom, FileFault, OutFault, BadInput, Uncosted, Reserved, NoMemory}
+use Rattle.cerco_command.specs.declared.status.Status.TheVariants.{Done, Told, NoFile, Usage, Refused, NoRoom, FileFault, OutFault, BadInput, Uncosted, Reserved, NoMemory}
 
 abbrev pub code_of : Status → ℕ
 code_of Done = 0
+code_of Told = 0
 code_of NoFile = 1
 code_of Usage = 2
 code_of Refused = 3

@@ -1,13 +1,14 @@
 -- What the program promises for its words. (The compiler's own.)
 use Rattle.std.specs.Prelude.{◌≡◌, ℕ, List, [], Option, Some, None, IsTrue}
 use Rattle.cerco_base.specs.Outside.IoStates.{FilesState, SameFiles}
-use Rattle.cerco_command.specs.Words.{Request, Builds, Runs, Lists, GivesCosts, Erases}
+use Rattle.cerco_command.specs.Words.{Request, Builds, Runs, Lists, GivesCosts, Erases, Tells}
 use Rattle.cerco_command.specs.Messages.{usage}
 use Rattle.cerco_command.specs.Building.{BuildMeans}
 use Rattle.cerco_command.specs.Running.{RunMeans}
 use Rattle.cerco_command.specs.Disassembly.{ListMeans}
 use Rattle.cerco_command.specs.Costs.{CostsMeans}
 use Rattle.cerco_command.specs.Erasing.{EraseMeans}
+use Rattle.cerco_command.specs.Telling.{MeaningMeans}
 use Rattle.cerco_command.specs.declared.status.Status.{Status}
 use Rattle.cerco_command.specs.declared.status.Status.TheVariants.{Usage, NoMemory}
 
@@ -24,4 +25,5 @@ Means (Some (Runs files)) s t = RunMeans files s t
 Means (Some (Lists hex)) s t = ListMeans hex s t
 Means (Some (GivesCosts files)) s t = CostsMeans files s t
 Means (Some (Erases text)) s t = EraseMeans text s t
+Means (Some (Tells words)) s t = MeaningMeans words s t
 Means None s t = UsageMeans s t

@@ -5,6 +5,7 @@ use Rattle.std.specs.Option.{option_or}
 use Rattle.std.specs.Str.Parse.{digits_value}
 use Rattle.cerco_command.specs.declared.words.BuildNames.{BuildNames}
 use Rattle.cerco_command.specs.declared.words.RunWords.{RunWords}
+use Rattle.cerco_command.specs.declared.words.MeaningWords.{MeaningWords}
 use Rattle.cerco_command.specs.declared.words.ObjectNames.{ObjectNames}
 use Rattle.cerco_command.specs.declared.words.Command.{Command}
 
@@ -33,6 +34,12 @@ pub record ObjectFiles : Type 0 where
   pub hex : List ℕ
   pub map : List ℕ
 
+-- the files of `meaning`: the source and the port script; and how many labels the run passes at most
+pub record MeaningRequest : Type 0 where
+  pub source : List ℕ
+  pub script : List ℕ
+  pub limit : ℕ
+
 -- what a command line asks for
 pub data Request : Type 0 where
   Builds : BuildFiles → Request
@@ -40,6 +47,7 @@ pub data Request : Type 0 where
   Lists : List ℕ → Request
   GivesCosts : ObjectFiles → Request
   Erases : List ℕ → Request
+  Tells : MeaningRequest → Request
 
 -- five words
 abbrev pub of_five : {R : Type 0} → (List ℕ → List ℕ → List ℕ → List ℕ → List ℕ → Option R) → List (List ℕ) → Option R
@@ -65,7 +73,7 @@ build_in word source hex map annotated =
 abbrev pub build_of : List (List ℕ) → Option BuildFiles
 build_of words = of_five build_in words
 
--- a number of cycles: decimal without leading zeros, at most 1,000,000,000
+-- a number of cycles or of labels: decimal without leading zeros, at most 1,000,000,000
 abbrev pub is_limit : List ℕ → Bool
 is_limit word = bytes_eq word (decimal (digits_value 10 word)) && nat_le (digits_value 10 word) 1000000000
 
@@ -95,6 +103,22 @@ abbrev pub erase_of : List (List ℕ) → Option (List ℕ)
 erase_of (word ∷ text ∷ []) = cond (bytes_eq word (codes "erase") && is_name text) (Some text) None
 erase_of words = None
 
+-- four words
+abbrev pub of_four : {R : Type 0} → (List ℕ → List ℕ → List ℕ → List ℕ → Option R) → List (List ℕ) → Option R
+of_four read (a ∷ b ∷ c ∷ d ∷ []) = read a b c d
+of_four read words = None
+
+-- `meaning` and two names
+abbrev pub has_meaning_names : List ℕ → List ℕ → List ℕ → Bool
+has_meaning_names word source script = bytes_eq word (codes "meaning") && (is_name source && is_name script)
+
+abbrev pub meaning_in : List ℕ → List ℕ → List ℕ → List ℕ → Option MeaningRequest
+meaning_in word source script limit =
+    cond (has_meaning_names word source script && is_limit limit) (Some (record { source = source; script = script; limit = digits_value 10 limit })) None
+
+abbrev pub meaning_of : List (List ℕ) → Option MeaningRequest
+meaning_of words = of_four meaning_in words
+
 -- the request that the words are, none where they are no command
 abbrev pub request_of : List (List ℕ) → Option Request
 request_of words =
@@ -102,7 +126,8 @@ request_of words =
     (option_or (option_map Runs (run_of words))
     (option_or (option_map Lists (list_of words))
     (option_or (option_map GivesCosts (costs_of words))
-    (option_map Erases (erase_of words)))))
+    (option_or (option_map Erases (erase_of words))
+    (option_map Tells (meaning_of words))))))
 
 -- what holds of every request that words are: the names of different files differ, and a number of cycles isn't too large
 abbrev pub IsWellFormed : Request → Type 0
@@ -117,6 +142,9 @@ files_of names = record { source = string_bytes names.source; hex = string_bytes
 abbrev pub run_of_words : RunWords → RunRequest
 run_of_words words = record { hex = string_bytes words.hex; map = string_bytes words.map; script = string_bytes words.script; limit = words.limit }
 
+abbrev pub meaning_of_words : MeaningWords → MeaningRequest
+meaning_of_words words = record { source = string_bytes words.source; script = string_bytes words.script; limit = words.limit }
+
 abbrev pub object_files_of : ObjectNames → ObjectFiles
 object_files_of names = record { hex = string_bytes names.hex; map = string_bytes names.map }
 
@@ -127,3 +155,4 @@ request_in (Command.Run words) = Runs (run_of_words words)
 request_in (Command.List hex) = Lists (string_bytes hex)
 request_in (Command.Costs names) = GivesCosts (object_files_of names)
 request_in (Command.Erase text) = Erases (string_bytes text)
+request_in (Command.Meaning words) = Tells (meaning_of_words words)

@@ -4,6 +4,7 @@ ghost use Rattle.cerco_base.specs.Outside.InMemory.{sound_sink_state};
 ghost use Rattle.object_hex.specs.HexMeaning.{IsHexText};
 ghost use Rattle.object_hex.specs.MapMeaning.{IsMapText};
 ghost use Rattle.cerco_command.specs.Words.{files_of, HaveDifferentNames};
+ghost use Rattle.cerco_command.specs.Answers.{KeepsFiles};
 ghost use Rattle.cerco_command.specs.Building.{AreCompiled, outputs, BuildMeans};
 ghost use Rattle.cerco_command.specs.Code.Stages.{IsBuiltFrom, IsAnnotatedText, costs_in, MayStand, WritesAll, Finishes, BuildsOn};
 
@@ -19,7 +20,7 @@ use object_hex::{write_hex, write_map};
 use std::alloc::Global;
 
 /// How many bytes of a source are read at most: one more than the longest source has.
-const READ_LIMIT: usize = 65536;
+pub const SOURCE_LIMIT: usize = 65536;
 
 /// The texts of the outputs.
 #[derive(Drop)]
@@ -113,9 +114,10 @@ fn write_texts<F: Files>(
 }
 
 fn finish<F: Files>(alloc: Global, files: &mut F, names: &BuildNames, texts: &Texts) -> Reply
-    ensures { Finishes (outputs (files_of names.now)
+    ensures finishes { Finishes (outputs (files_of names.now)
         (sound_sink_state texts.now.hex).bytes (sound_sink_state texts.now.map).bytes (sound_sink_state texts.now.annotated).bytes)
         (F.state files.old) (F.state files.new) result.status (string_bytes result.line) }
+    ensures keeps { KeepsFiles (F.state files.old) (F.state files.new) }
 {
     match write_texts(alloc, files, names, texts) {
         Ok(()) => silent(alloc, Status::Done),
@@ -132,7 +134,8 @@ fn write_built<F: Files>(
     files: &mut F,
 ) -> Reply
     requires { IsBuiltFrom source.now built.now }
-    ensures { BuildsOn (files_of names.now) source.now (F.state files.old) (F.state files.new) result.status (string_bytes result.line) }
+    ensures builds { BuildsOn (files_of names.now) source.now (F.state files.old) (F.state files.new) result.status (string_bytes result.line) }
+    ensures keeps { KeepsFiles (F.state files.old) (F.state files.new) }
 {
     match make_texts(alloc, source, built) {
         Ok(texts) => finish(alloc, files, names, &texts),
@@ -142,7 +145,8 @@ fn write_built<F: Files>(
 
 // Builds from a source that was read.
 fn build_on<F: Files>(alloc: Global, names: &BuildNames, source: &[u8], files: &mut F) -> Reply
-    ensures { BuildsOn (files_of names.now) source.now (F.state files.old) (F.state files.new) result.status (string_bytes result.line) }
+    ensures builds { BuildsOn (files_of names.now) source.now (F.state files.old) (F.state files.new) result.status (string_bytes result.line) }
+    ensures keeps { KeepsFiles (F.state files.old) (F.state files.new) }
 {
     match compile(alloc, source) {
         Ok(built) => write_built(alloc, names, source, &built, files),
@@ -156,9 +160,10 @@ fn build_on<F: Files>(alloc: Global, names: &BuildNames, source: &[u8], files: &
 /// than the machine has. No file is created then.
 pub fn build<F: Files>(alloc: Global, names: &BuildNames, files: &mut F) -> Reply
     requires { HaveDifferentNames (files_of names.now) }
-    ensures { BuildMeans (files_of names.now) (F.state files.old) (F.state files.new) result.status (string_bytes result.line) }
+    ensures means { BuildMeans (files_of names.now) (F.state files.old) (F.state files.new) result.status (string_bytes result.line) }
+    ensures keeps { KeepsFiles (F.state files.old) (F.state files.new) }
 {
-    match read_input(alloc, &names.source, READ_LIMIT, files) {
+    match read_input(alloc, &names.source, SOURCE_LIMIT, files) {
         Ok(source) => build_on(alloc, names, &source, files),
         Err(reply) => reply,
     }

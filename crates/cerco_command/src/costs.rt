@@ -2,7 +2,7 @@
 ghost use Rattle.std.specs.Prelude.{◌≡◌, ◌≤◌, length, OnOk, IfOk, IfErr, IsTrue, string_bytes};
 ghost use Rattle.cerco_base.specs.Outside.IoStates.{SameFiles};
 ghost use Rattle.cerco_base.specs.Outside.InMemory.{sound_sink_state};
-ghost use Rattle.cerco_command.specs.Answers.{Answers};
+ghost use Rattle.cerco_command.specs.Answers.{Answers, KeepsFiles};
 ghost use Rattle.cerco_command.specs.Messages.{label_name, cost_line, uncosted_line};
 ghost use Rattle.cerco_command.specs.Inputs.{CannotRead, NoneTooLong};
 ghost use Rattle.cerco_command.specs.Costs.{names_of, texts_of, with_names, AreTextsOf, after_text, labels_told, costs_told, Prints, PrintsCosts, CostsMeans, CostsMeansFor};
@@ -10,13 +10,13 @@ ghost use Rattle.cerco_command.specs.Words.{object_files_of};
 ghost use Rattle.cerco_command.specs.declared.status.Status.TheVariants as Is;
 
 use crate::inputs::{READ_LIMIT, check_length, read_input, read_object};
-use crate::line::Line;
 use crate::printing::{put_cost, put_uncosted};
 use crate::reply::{Reply, answer, say, silent};
 use crate::status::Status;
 use crate::words::ObjectNames;
 use block_costs::{CostFault, Marks, cost_of, start_cost};
 use cerco_base::{Files, IoFault, NoMemory, Sink, SoundSink};
+use printed_lines::Line;
 use std::alloc::Global;
 
 /// The texts of the files of an object.
@@ -120,6 +120,7 @@ fn read_texts<F: Files>(alloc: Global, names: &ObjectNames, files: &mut F) -> Re
     ensures read { IsTrue (F.state files.old).known → IfOk result (λ texts. AreTextsOf (object_files_of names.now) (F.state files.old) (texts_of texts)) }
     ensures cannot { IfErr result (λ reply. CannotRead (names_of (object_files_of names.now)) (F.state files.old) (F.state files.new) reply.status (string_bytes reply.line)) }
     ensures same { IsTrue (F.state files.old).known → SameFiles (F.state files.old) (F.state files.new) }
+    ensures keeps { KeepsFiles (F.state files.old) (F.state files.new) }
 {
     let hex = read_input(alloc, &names.hex, READ_LIMIT, files)?;
     let map = read_input(alloc, &names.map, READ_LIMIT, files)?;
@@ -164,7 +165,8 @@ pub fn costs<F: Files, O: Sink>(
     files: &mut F,
     out: &mut O,
 ) -> Status
-    ensures { Answers (CostsMeans (object_files_of names.now) (F.state files.old) (F.state files.new)) (O.state out.old) (O.state out.new) result }
+    ensures answers { Answers (CostsMeans (object_files_of names.now) (F.state files.old) (F.state files.new)) (O.state out.old) (O.state out.new) result }
+    ensures keeps { KeepsFiles (F.state files.old) (F.state files.new) }
 {
     match read_texts(alloc, names, files) {
         Ok(texts) => print_costs(alloc, names, &texts, out),

@@ -1,6 +1,6 @@
 //! The command `erase`.
 ghost use Rattle.annotate.specs.Erasure.{erased};
-ghost use Rattle.cerco_command.specs.Answers.{Says, Answers};
+ghost use Rattle.cerco_command.specs.Answers.{Says, Answers, KeepsFiles};
 ghost use Rattle.cerco_command.specs.Erasing.{EraseMeans, EraseMeansFor};
 ghost use Rattle.cerco_command.specs.declared.status.Status.TheVariants as Is;
 
@@ -33,7 +33,8 @@ fn erase_text<O: Sink>(alloc: Global, name: &str, text: &[u8], out: &mut O) -> S
 
 /// Prints an annotated text without its annotations.
 pub fn erase<F: Files, O: Sink>(alloc: Global, name: &str, files: &mut F, out: &mut O) -> Status
-    ensures { Answers (EraseMeans name.now (F.state files.old) (F.state files.new)) (O.state out.old) (O.state out.new) result }
+    ensures answers { Answers (EraseMeans name.now (F.state files.old) (F.state files.new)) (O.state out.old) (O.state out.new) result }
+    ensures keeps { KeepsFiles (F.state files.old) (F.state files.new) }
 {
     match read_input(alloc, name, READ_LIMIT, files) {
         Ok(text) => erase_text(alloc, name, &text, out),

@@ -4,7 +4,7 @@
 
 ghost use Rattle.std.specs.Prelude.{map, string_bytes, Some};
 ghost use Rattle.cerco_command.specs.Words.{request_in, request_of, IsWellFormed};
-ghost use Rattle.cerco_command.specs.Answers.{Answers, EndsWith};
+ghost use Rattle.cerco_command.specs.Answers.{Answers, EndsWith, KeepsFiles};
 ghost use Rattle.cerco_command.specs.Top.{Means};
 ghost use Rattle.cerco_command.specs.Once.{MeansOnce};
 ghost use Rattle.cerco_command.specs.Complete.{BuildsAll};
@@ -13,13 +13,13 @@ pub mod building;
 pub mod costs;
 pub mod erasing;
 pub mod inputs;
-pub mod line;
 pub mod listing;
 pub mod printing;
 pub mod refusal;
 pub mod reply;
 pub mod running;
 pub mod status;
+pub mod telling;
 pub mod words;
 
 use building::build;
@@ -31,12 +31,14 @@ use reply::{answer, usage};
 use running::run;
 use status::Status;
 use std::alloc::Global;
+use telling::meaning;
 use words::{Command, WordsFault, read_words};
 
 // Carries out a command.
 fn obey<F: Files, O: Sink>(alloc: Global, command: &Command, files: &mut F, out: &mut O) -> Status
     requires { IsWellFormed (request_in command.now) }
-    ensures { Answers (Means (Some (request_in command.now)) (F.state files.old) (F.state files.new)) (O.state out.old) (O.state out.new) result }
+    ensures answers { Answers (Means (Some (request_in command.now)) (F.state files.old) (F.state files.new)) (O.state out.old) (O.state out.new) result }
+    ensures keeps { KeepsFiles (F.state files.old) (F.state files.new) }
 {
     match command {
         Command::Build(names) => answer(out, &build(alloc, names, files)),
@@ -44,6 +46,7 @@ fn obey<F: Files, O: Sink>(alloc: Global, command: &Command, files: &mut F, out:
         Command::List(hex) => list(alloc, hex, files, out),
         Command::Costs(names) => costs(alloc, names, files, out),
         Command::Erase(text) => erase(alloc, text, files, out),
+        Command::Meaning(words) => meaning(alloc, words, files, out),
     }
 }
 
@@ -54,7 +57,8 @@ fn carry_out<F: Files, O: Sink>(
     files: &mut F,
     out: &mut O,
 ) -> Status
-    ensures { Answers (Means (request_of (map string_bytes words.now)) (F.state files.old) (F.state files.new)) (O.state out.old) (O.state out.new) result }
+    ensures answers { Answers (Means (request_of (map string_bytes words.now)) (F.state files.old) (F.state files.new)) (O.state out.old) (O.state out.new) result }
+    ensures keeps { KeepsFiles (F.state files.old) (F.state files.new) }
 {
     match read_words(alloc, words) {
         Ok(command) => obey(alloc, &command, files, out),
@@ -66,6 +70,8 @@ fn carry_out<F: Files, O: Sink>(
 /// The whole program: its words after the program's name, its files and its output. The result is the exit status.
 pub fn cerco<F: Files, O: Sink>(alloc: Global, words: &[String], files: &mut F, out: &mut O) -> u8
     ensures ends { EndsWith (Means (request_of (map string_bytes words.now)) (F.state files.old) (F.state files.new)) (O.state out.old) (O.state out.new) result }
+    // the count of the files' faults never falls, and contents that are known stay known
+    ensures keeps { KeepsFiles (F.state files.old) (F.state files.new) }
     // the files determine what is meant, but for faults and out of memory
     ensures once { MeansOnce (Means (request_of (map string_bytes words.now))) }
     // each source whose own bounds say that there is room is built, but for faults and out of memory

@@ -2,16 +2,17 @@
 ghost use Rattle.std.specs.Prelude.{◌≡◌, ◌≤◌, ◌<◌, length, slice_index, IfOk};
 ghost use Rattle.cerco_base.specs.Outside.InMemory.{sound_sink_state};
 ghost use Rattle.mcs51_isa.specs.Decoding.{with_length};
-ghost use Rattle.cerco_command.specs.Answers.{Answers};
+ghost use Rattle.cerco_command.specs.Answers.{Answers, KeepsFiles};
 ghost use Rattle.cerco_command.specs.Disassembly.{listed_at, ListsTo, ListMeans, ListMeansFor};
 ghost use Rattle.cerco_command.specs.Code.Stages.{LineListed};
 
 use crate::inputs::{READ_LIMIT, check_length, read_code, read_input};
-use crate::printing::{put_pending, put_reserved};
+use crate::printing::put_reserved;
 use crate::reply::{answer, say};
 use crate::status::Status;
 use cerco_base::{Files, IoFault, Sink, SoundSink};
 use mcs51_isa::{Instr, decode, list_line};
+use printed_lines::put_pending;
 use std::alloc::Global;
 
 // The byte at an address, 0 past the code's end.
@@ -90,7 +91,8 @@ fn list_text<O: Sink>(alloc: Global, name: &str, text: &[u8], out: &mut O) -> St
 
 /// Prints the instructions of an object from address 0 to its end, or to the reserved opcode.
 pub fn list<F: Files, O: Sink>(alloc: Global, name: &str, files: &mut F, out: &mut O) -> Status
-    ensures { Answers (ListMeans name.now (F.state files.old) (F.state files.new)) (O.state out.old) (O.state out.new) result }
+    ensures answers { Answers (ListMeans name.now (F.state files.old) (F.state files.new)) (O.state out.old) (O.state out.new) result }
+    ensures keeps { KeepsFiles (F.state files.old) (F.state files.new) }
 {
     match read_input(alloc, name, READ_LIMIT, files) {
         Ok(text) => list_text(alloc, name, &text, out),

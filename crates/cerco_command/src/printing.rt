@@ -1,38 +1,15 @@
-//! Lines of numbers, and a text that is put by pieces.
+//! The lines of events, addresses and costs.
 ghost use Rattle.std.specs.Prelude.{◌≡◌, ◌<◌, ◌++◌, ◌∷◌, [], codes, decimal, length, IfOk, IfErr};
 ghost use Rattle.cerco_base.specs.HexDigits.{hex_word};
 ghost use Rattle.cerco_base.specs.Outside.IoCalls.{PutsText};
-ghost use Rattle.cerco_base.specs.Outside.InMemory.{sound_sink_state};
 ghost use Rattle.sim51.specs.Runs.{events_of, label_events};
 ghost use Rattle.cerco_command.specs.Messages.{line_about, reserved_line, port_lines, event_lines, cost_line, fault_line, uncosted_line};
-ghost use Rattle.cerco_command.specs.Code.Stages.{PutsFront};
 ghost use Rattle.block_costs.specs.declared.faults.CostFault.TheVariants.{Unequal};
 
-use crate::line::Line;
 use block_costs::CostFault;
-use cerco_base::{IoFault, Label, Port, Sink, SoundSink, hex_word, put_all};
-use itoa::Buffer;
+use cerco_base::{IoFault, Label, Port, Sink, hex_word, put_all};
+use printed_lines::{Line, put_count, put_number, put_pair};
 use sim51::Events;
-use std::alloc::Global;
-
-/// How many bytes are pending before they are put.
-const PIECE: usize = 4096;
-
-// Puts a word and a number.
-fn put_number<O: Sink>(word: &str, number: u64, out: &mut O) -> Result<(), IoFault>
-    ensures { PutsText (O.state out.old) (O.state out.new) (word.now ++ decimal number) result }
-{
-    put_all(out, word.as_bytes())?;
-    put_all(out, Buffer::new().format(number).as_bytes())
-}
-
-/// Puts a line with a word and a number.
-pub fn put_count<O: Sink>(word: &str, number: u64, out: &mut O) -> Result<(), IoFault>
-    ensures { PutsText (O.state out.old) (O.state out.new) (line_about word.now (decimal number)) result }
-{
-    put_number(word, number, out)?;
-    put_all(out, b"\n")
-}
 
 // Puts a line with a word and an address.
 fn put_address<O: Sink>(word: &str, address: u16, out: &mut O) -> Result<(), IoFault>
@@ -57,13 +34,7 @@ fn put_label<O: Sink>(label: Option<Label>, cycles: u64, out: &mut O) -> Result<
     let Some(Label(number)) = label else {
         return Ok(());
     };
-    let mut line = Line::new();
-    line.push(b'L');
-    line.push_number(number as u64);
-    line.push(b' ');
-    line.push_number(cycles);
-    line.push(b'\n');
-    put_all(out, line.as_slice())
+    put_pair(b'L', number as u64, cycles, out)
 }
 
 // Puts the line of a byte at a port, if there is one.
@@ -137,24 +108,4 @@ pub fn put_uncosted<O: Sink>(name: &[u8], fault: CostFault, out: &mut O) -> Resu
     put_all(out, name)?;
     put_all(out, b" ")?;
     put_fault(fault, out)
-}
-
-/// Puts a text that is pending, once it is long, and gives what is pending then.
-///
-/// # Errors
-///
-/// The fault of the output. A prefix of the text was put then.
-pub fn put_pending<O: Sink>(
-    alloc: Global,
-    pending: SoundSink,
-    out: &mut O,
-) -> Result<SoundSink, IoFault>
-    ensures front { IfOk result (λ left. PutsFront (O.state out.old) (O.state out.new) (sound_sink_state pending).bytes (sound_sink_state left).bytes) }
-    ensures fault { IfErr result (λ fault. PutsText {T = Unit {0}} (O.state out.old) (O.state out.new) (sound_sink_state pending).bytes (Err fault)) }
-{
-    if pending.bytes().len() < PIECE {
-        return Ok(pending);
-    }
-    put_all(out, pending.bytes())?;
-    Ok(SoundSink::new(alloc))
 }

@@ -4,7 +4,7 @@ ghost use Rattle.cerco_base.specs.Outside.IoStates.{SameFiles};
 ghost use Rattle.cerco_base.specs.Outside.InMemory.{sound_sink_state};
 ghost use Rattle.sim51.specs.State.{reset};
 ghost use Rattle.sim51.specs.Runs.{Setup, setup_of};
-ghost use Rattle.cerco_command.specs.Answers.{Answers};
+ghost use Rattle.cerco_command.specs.Answers.{Answers, KeepsFiles};
 ghost use Rattle.cerco_command.specs.Inputs.{CannotRead, longest, NoneTooLong, HasNoObject, AreObject};
 ghost use Rattle.cerco_command.specs.Running.{names_of, texts_of, with_names, AreTextsOf, RunsTo, RunMeans, RunMeansFor};
 ghost use Rattle.cerco_command.specs.Once.{StopsOnce};
@@ -12,11 +12,12 @@ ghost use Rattle.cerco_command.specs.Code.Stages.{StepPrinted};
 ghost use Rattle.cerco_command.specs.Words.{run_of_words};
 
 use crate::inputs::{READ_LIMIT, check_length, read_input, read_object};
-use crate::printing::{put_count, put_events, put_pending, put_reserved};
+use crate::printing::{put_events, put_reserved};
 use crate::reply::{Reply, answer, say, silent};
 use crate::status::Status;
 use crate::words::RunWords;
 use cerco_base::{Files, IoFault, Sink, SoundSink};
+use printed_lines::{put_count, put_pending};
 use sim51::{Machine, Step};
 use std::alloc::Global;
 
@@ -32,6 +33,7 @@ fn read_inputs<F: Files>(alloc: Global, words: &RunWords, files: &mut F) -> Resu
     ensures read { IsTrue (F.state files.old).known → IfOk result (λ inputs. AreTextsOf (run_of_words words.now) (F.state files.old) (texts_of inputs)) }
     ensures cannot { IfErr result (λ reply. CannotRead (names_of (run_of_words words.now)) (F.state files.old) (F.state files.new) reply.status (string_bytes reply.line)) }
     ensures same { IsTrue (F.state files.old).known → SameFiles (F.state files.old) (F.state files.new) }
+    ensures keeps { KeepsFiles (F.state files.old) (F.state files.new) }
 {
     let hex = read_input(alloc, &words.hex, READ_LIMIT, files)?;
     let map = read_input(alloc, &words.map, READ_LIMIT, files)?;
@@ -139,6 +141,7 @@ fn run_inputs<O: Sink>(alloc: Global, words: &RunWords, inputs: &Inputs, out: &m
 pub fn run<F: Files, O: Sink>(alloc: Global, words: &RunWords, files: &mut F, out: &mut O) -> Status
     requires { words.now.limit ≤ 1000000000 }
     ensures answers { Answers (RunMeans (run_of_words words.now) (F.state files.old) (F.state files.new)) (O.state out.old) (O.state out.new) result }
+    ensures keeps { KeepsFiles (F.state files.old) (F.state files.new) }
     // every run has one stop, which is at the reserved opcode exactly where the machine reaches that below the limit
     ensures one_stop { (m : Setup) (limit : ℕ) → StopsOnce m limit }
 {

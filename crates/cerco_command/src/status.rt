@@ -8,6 +8,9 @@ use cerco_base::IoFault;
 pub enum Status {
     /// 0: the command is done.
     Done,
+    /// 0 as well: the meaning of a source is told. This is a status of its own since the bytes of a source and a script don't determine the
+    /// costs that are told: these depend on the code that the back end makes, of which the contracts allow more than one.
+    Told,
     /// 1: a file that the command reads isn't there.
     NoFile,
     /// 2: the words are no command.
@@ -50,7 +53,7 @@ impl Status {
         ensures { result ≡ code_of self }
     {
         match self {
-            Status::Done => 0,
+            Status::Done | Status::Told => 0,
             Status::NoFile => 1,
             Status::Usage => 2,
             Status::Refused | Status::NoRoom => 3,

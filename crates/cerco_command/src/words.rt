@@ -1,6 +1,6 @@
 //! The words of the command line.
 ghost use Rattle.std.specs.Prelude.{◌≡◌, ◌≢◌, ℕ, ◌≤◌, IfOk, IfErr, None, Some, MatchOption, string_bytes, map, option_map, decimal};
-ghost use Rattle.cerco_command.specs.Words.{is_name, all_differ, is_build, has_run_names, build_of, run_of, list_of, costs_of, erase_of, request_of, request_in, files_of, run_of_words, object_files_of, IsWellFormed};
+ghost use Rattle.cerco_command.specs.Words.{is_name, all_differ, is_build, has_run_names, build_of, run_of, list_of, costs_of, erase_of, meaning_of, has_meaning_names, meaning_of_words, request_of, request_in, files_of, run_of_words, object_files_of, IsWellFormed};
 ghost use Rattle.cerco_command.specs.declared.words.WordsFault.TheVariants.{Usage, OutOfMemory};
 
 use itoa::Buffer;
@@ -45,6 +45,17 @@ pub struct ObjectNames {
     pub map: String,
 }
 
+/// The words of `meaning`.
+#[derive(Drop)]
+pub struct MeaningWords {
+    /// The source, which is read.
+    pub source: String,
+    /// The bytes that the ports' pins show, which are read.
+    pub script: String,
+    /// How many labels the run passes at most.
+    pub limit: u32,
+}
+
 /// A command of the program.
 #[derive(Drop)]
 pub enum Command {
@@ -58,6 +69,8 @@ pub enum Command {
     Costs(ObjectNames),
     /// Prints an annotated text, which has this name, without its annotations.
     Erase(String),
+    /// Prints what a source means on a port script, with its costs.
+    Meaning(MeaningWords),
 }
 
 /// Why words aren't read as a command.
@@ -123,7 +136,7 @@ fn read_build(alloc: Global, words: &[String]) -> Result<Option<BuildNames>, All
     }))
 }
 
-// The number of cycles that a word writes in decimal, without a leading zero.
+// The number of cycles or of labels that a word writes in decimal, without a leading zero.
 fn read_limit(word: &str) -> Option<u32>
     ensures { MatchOption result ((n : ℕ) → n ≤ 1000000000 → word.now ≢ decimal n) (λ n. (n ≤ 1000000000) × (word.now ≡ decimal n)) }
 {
@@ -205,6 +218,32 @@ fn read_erase(alloc: Global, words: &[String]) -> Result<Option<String>, AllocEr
     Ok(Some(String::from_str(alloc, text)?))
 }
 
+fn has_meaning_names(word: &str, source: &str, script: &str) -> bool
+    ensures { result ≡ has_meaning_names word.now source.now script.now }
+{
+    word == "meaning" && is_name(source) && is_name(script)
+}
+
+// The words of a `meaning`, none where they are none.
+fn read_meaning(alloc: Global, words: &[String]) -> Result<Option<MeaningWords>, AllocError>
+    ensures { IfOk result (λ read. option_map meaning_of_words read ≡ meaning_of (map string_bytes words.now)) }
+{
+    let [word, source, script, limit] = words else {
+        return Ok(None);
+    };
+    let Some(limit) = read_limit(limit) else {
+        return Ok(None);
+    };
+    if !has_meaning_names(word, source, script) {
+        return Ok(None);
+    }
+    Ok(Some(MeaningWords {
+        source: String::from_str(alloc, source)?,
+        script: String::from_str(alloc, script)?,
+        limit,
+    }))
+}
+
 /// The command that the words after the program's name are.
 pub fn read_words(alloc: Global, words: &[String]) -> Result<Command, WordsFault>
     ensures command { IfOk result (λ command. Some (request_in command) ≡ request_of (map string_bytes words.now)) }
@@ -225,6 +264,9 @@ pub fn read_words(alloc: Global, words: &[String]) -> Result<Command, WordsFault
     }
     if let Some(text) = read_erase(alloc, words)? {
         return Ok(Command::Erase(text));
+    }
+    if let Some(words) = read_meaning(alloc, words)? {
+        return Ok(Command::Meaning(words));
     }
     Err(WordsFault::Usage)
 }

@@ -8,3 +8,4 @@ pub mod Read
 pub mod Room
 pub mod Costing
 pub mod Whole
+pub mod MeaningTold

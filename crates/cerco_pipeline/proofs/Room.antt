@@ -11,7 +11,7 @@ use Rattle.cerco_middle.specs.Cminor.Trees.{Cminor}
 use Rattle.cerco_middle.specs.Cminor.Meaning.{cminor}
 use Rattle.cerco_middle.specs.Cminor.Sums.{long_length}
 use Rattle.cerco_middle.specs.Cminor.Sums as cm
-use Rattle.clight_syntax.specs.Bounds.{code_bound, register_need}
+use Rattle.clight_syntax.specs.Bounds.{code_bound}
 use Rattle.clight_syntax.specs.TypedTrees.{TypedProgram}
 use Rattle.clight_meaning.specs.Meaning.{source as meaning}
 use Rattle.checked_programs.specs.Limits.{AreWithinNeeds, IsWithinLimits}

@@ -2,3 +2,4 @@ pub mod Programs
 pub mod Built
 pub mod Compiled
 pub mod Laws
+pub mod Told

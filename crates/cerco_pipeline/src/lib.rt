@@ -13,6 +13,7 @@ mod costs;
 mod front;
 pub mod laws;
 mod rear;
+mod telling;
 
 use back_end::Assembled;
 use cerco_base::{Code, Fault, LabelList};
@@ -22,6 +23,7 @@ use costs::{ObjectCosts, costs_of};
 use front::labelled_program;
 use rear::assembled;
 use std::alloc::Global;
+pub use telling::tell_meaning;
 
 /// What `build` writes of a compiled source.
 #[derive(Drop)]

@@ -6,9 +6,9 @@ use std::alloc::Global;
 use std::process::Abort;
 use std::str;
 
-// Sources, port scripts, and the events of the runs, each without its cycles; one that goes on has the first of them.
+/// Sources, port scripts, and the events of the runs, each without its cycles; one that goes on has the first of them.
 #[rattlefmt::skip]
-const RUNS: [(&str, &[u8], &str); 19] = [
+pub const RUNS: [(&str, &[u8], &str); 19] = [
     // a reading whose value is never used
     ("void main(void){unsigned char x;x=P1;}", b"\x07", "L0, R1 7, end\n"),
     ("void main(void){unsigned char x;x=P1;P1=x;x=P1;P1=x;}", b"\x09", "L0, R1 9, P1 9, R1 255, P1 255, end\n"),

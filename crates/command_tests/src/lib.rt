@@ -10,6 +10,8 @@ mod faults;
 #[cfg(test)]
 mod hostile;
 #[cfg(test)]
+mod meanings;
+#[cfg(test)]
 mod objects;
 #[cfg(test)]
 mod refusals;

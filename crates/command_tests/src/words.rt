@@ -4,7 +4,7 @@ use crate::seeing::{EMPTY, see, split};
 use cerco_base::{MemoryFiles, MemorySink, NoMemory};
 use cerco_command::cerco;
 
-const USAGE: [&str; 22] = [
+const USAGE: [&str; 28] = [
     "",
     "build a b c",
     "build a b c d e",
@@ -27,6 +27,12 @@ const USAGE: [&str; 22] = [
     "erase",
     "erase a b",
     "erase -a",
+    "meaning a b",
+    "meaning a b c",
+    "meaning a b 05",
+    "meaning a b 1000000001",
+    "meaning -a b 5",
+    "meaning a b 5 5",
 ];
 
 #[test]

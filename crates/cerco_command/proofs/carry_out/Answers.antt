@@ -1,7 +1,7 @@
 use Rattle.std.proofs.Common.{[], map, string_bytes, Option, Some, None, refl, inl}
 use Rattle.cerco_base.specs.Outside.IoStates.{FilesState}
 use Rattle.cerco_command.specs.Top.{Means}
-use Rattle.cerco_command.specs.Words.{Request, Builds, Runs, Lists, GivesCosts, Erases, request_of}
+use Rattle.cerco_command.specs.Words.{Request, Builds, Runs, Lists, GivesCosts, Erases, Tells, request_of}
 use Rattle.cerco_command.specs.declared.status.Status.TheVariants.{NoMemory}
 use Rattle.cerco_command.proofs.Answering.{answered, says_nothing}
 use Rattle.cerco_command.proofs.carry_out.Goals as goal
@@ -13,10 +13,11 @@ no_memory_meant (Some (Runs files)) s = record { same = λ h q. refl; means = in
 no_memory_meant (Some (Lists hex)) s = record { same = λ h q. refl; means = inl refl }
 no_memory_meant (Some (GivesCosts files)) s = record { same = λ h q. refl; means = inl refl }
 no_memory_meant (Some (Erases text)) s = record { same = λ h q. refl; means = inl refl }
+no_memory_meant (Some (Tells words)) s = record { same = λ h q. refl; means = inl refl }
 no_memory_meant None s = (refl, λ h q. refl)
 
-pub returns-in-Err-OutOfMemory : goal.returns-in-Err-OutOfMemory
-returns-in-Err-OutOfMemory g c =
+pub returns-in-Err-OutOfMemory-clause-answers : goal.returns-in-Err-OutOfMemory-clause-answers
+returns-in-Err-OutOfMemory-clause-answers g c =
     let s = g.F.Files.state c.args.files.now in
     let o = g.O.Sink.state c.args.out.now in
     let request = request_of (map string_bytes c.args.words.now) in

@@ -2,8 +2,8 @@
 -- by pieces. (The compiler's own.)
 use Rattle.std.specs.Prelude.{◌≡◌, ℕ, ◌+◌, ◌<◌, length, All, ◌≤◌, List, [], ◌∷◌, ◌++◌, Option, Some, None, Result, OnOk, OnErr, IfErr, IsTrue, string_bytes, ◌⊎◌}
 use Rattle.cerco_base.specs.Outside.IoFaults.{Rose}
-use Rattle.cerco_base.specs.Outside.IoStates.{FilesState, SinkState, SameFiles}
-use Rattle.cerco_base.specs.Outside.IoCalls.{Keeps, Adds}
+use Rattle.cerco_base.specs.Outside.IoStates.{FilesState, SameFiles}
+pub use Rattle.printed_lines.specs.Pieces.{PutsFront}
 use Rattle.mcs51_isa.specs.declared.instr.Instr.{Instr}
 use Rattle.mcs51_isa.specs.Table.{encode_of}
 use Rattle.mcs51_isa.specs.Listing.{line_of}
@@ -85,19 +85,18 @@ pub record Makes (files : BuildFiles) (source : List ℕ) (s t : FilesState) (st
   pub texts : AreCompiled source hex map annotated
   pub finishes : Finishes (outputs files hex map annotated) s t status line
 
+-- what the status says of a source that isn't compiled
+abbrev pub SaysWhy : List ℕ → Status → List ℕ → Type 0
+SaysWhy source Refused line = SaysRefused source line
+SaysWhy source NoRoom line = SaysNoRoom source line
+SaysWhy source status line = ⊥
+
 -- what the status means once the source is read
 abbrev pub BuildsOn : BuildFiles → List ℕ → FilesState → FilesState → Status → List ℕ → Type 0
 BuildsOn files source s t Refused line = SaysRefused source line × (IsTrue s.known → SameFiles s t)
 BuildsOn files source s t NoRoom line = SaysNoRoom source line × (IsTrue s.known → SameFiles s t)
 BuildsOn files source s t NoMemory line = ((line ≡ []) × (IsTrue s.known → SameFiles s t)) ⊎ Makes files source s t NoMemory line
 BuildsOn files source s t status line = Makes files source s t status line
-
--- of a pending text a front is put, and the rest is pending
-pub record PutsFront (o p : SinkState) (before after : List ℕ) : Type 0 where
-  pub keeps : Keeps o p
-  pub front : List ℕ
-  pub whole : front ++ after ≡ before
-  pub added : Adds o p front
 
 -- what one step of a run adds to the pending text: the lines of its events where the machine goes on, or the last line
 abbrev pub Prints : ℕ → State → State → Moved → Option Status → List ℕ → Type 0

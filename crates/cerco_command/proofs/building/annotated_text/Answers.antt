@@ -1,5 +1,4 @@
-use Rattle.std.proofs.Common.{refl, length, ap, sym, ◌∙◌, arith}
-use Rattle.cerco_base.specs.Outside.InMemory.{sound_sink_state}
+use Rattle.std.proofs.Common.{length, ap, arith}
 use Rattle.annotate.proofs.AnnotatedText.{labels_below}
 use Rattle.cerco_command.proofs.building.annotated_text.Goals as goal
 

@@ -4,8 +4,8 @@ use Rattle.cerco_command.specs.Erasing.{EraseMeans, EraseMeansFor}
 use Rattle.cerco_command.proofs.Answering.{answers_by}
 use Rattle.cerco_command.proofs.erasing.erase.Goals as goal
 
-pub returns-in-Ok : goal.returns-in-Ok
-returns-in-Ok g c =
+pub returns-in-Ok-clause-answers : goal.returns-in-Ok-clause-answers
+returns-in-Ok-clause-answers g c =
     let s = g.F.Files.state c.args.files.now in
     let t = g.F.Files.state c.read_input.new.files in
     let name = c.args.name.now in

@@ -1,7 +1,7 @@
 use Rattle.std.proofs.Common.{arith}
 use Rattle.sim51.specs.Runs.{setup_of}
 use Rattle.sim51.proofs.Skipping.{skips_rise}
-use Rattle.cerco_command.proofs.RunSteps.{PrintsOn, started, went_silently, goes_on_printing, fewer_left, stop_printed, pending_lost, pending_unput}
+use Rattle.cerco_command.proofs.RunSteps.{started, went_silently, goes_on_printing, fewer_left, stop_printed, pending_lost, pending_unput}
 use Rattle.cerco_command.proofs.running.print_run.Goals as goal
 
 pub loop-status-init : goal.loop-status-init

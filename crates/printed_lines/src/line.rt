@@ -16,7 +16,7 @@ pub struct Line {
 
 impl Model for Line {
     ghost use Rattle.std.specs.Prelude.{List, ℕ, take, ◌≤◌};
-    ghost use Rattle.cerco_command.specs.declared.line.TheConstants.{CAPACITY};
+    ghost use Rattle.printed_lines.specs.declared.line.TheConstants.{CAPACITY};
 
     ghost Value = { List ℕ };
 

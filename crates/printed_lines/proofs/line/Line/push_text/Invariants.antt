@@ -1,5 +1,5 @@
 use Rattle.std.proofs.Common.{◌≡◌, ◌++◌, take}
-use Rattle.cerco_command.proofs.line.Line.push_text.Given as goal
+use Rattle.printed_lines.proofs.line.Line.push_text.Given as goal
 
 abbrev pub invariant-loop-byte : goal.invariant-loop-byte
 invariant-loop-byte l = l.self ≡ l.fn.self ++ take l.byte-index l.byte-items

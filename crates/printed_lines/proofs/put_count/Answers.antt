@@ -1,7 +1,7 @@
 use Rattle.std.proofs.Common.{codes, decimal, sym, append_assoc}
 use Rattle.cerco_base.proofs.PuttingPieces.{begun_as, piece_put, last_put, piece_failed}
-use Rattle.cerco_command.specs.Messages.{line_about}
-use Rattle.cerco_command.proofs.printing.put_count.Goals as goal
+use Rattle.printed_lines.specs.Lines.{line_about}
+use Rattle.printed_lines.proofs.put_count.Goals as goal
 
 pub returns-in_err-put_number : goal.returns-in_err-put_number
 returns-in_err-put_number g c =

@@ -1,7 +1,7 @@
 use Rattle.std.proofs.Common.{◌≡◌, decimal, ◌∙◌}
 use Rattle.cerco_base.proofs.Putting.{begun}
 use Rattle.cerco_base.proofs.PuttingPieces.{piece_put, last_put, piece_failed}
-use Rattle.cerco_command.proofs.printing.put_number.Goals as goal
+use Rattle.printed_lines.proofs.put_number.Goals as goal
 
 pub returns-in_err-put_all : goal.returns-in_err-put_all
 returns-in_err-put_all g c = rw (← c.as_bytes.ensures.value) (piece_failed _ _ _ _ _ _ _ _ (begun _ _) c.in_err-put_all.ensures c.from_residual.ensures.1)

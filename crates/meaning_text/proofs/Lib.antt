@@ -1,0 +1,3 @@
+mod Costing
+mod Steps
+mod Telling
