@@ -1,3 +1,5 @@
 pub mod Lexing
 pub mod Reading
 pub mod Labels
+pub mod Orders
+pub mod Layouts

@@ -12,7 +12,9 @@ use Rattle.clight_syntax.specs.TypedTrees.{TypedProgram}
 use Rattle.clight_names.specs.NameFaults.{first_name_fault}
 use Rattle.clight_typing.specs.TypedPrograms.{typed_program}
 use Rattle.clight_reader.specs.Reasons.{HasReason}
-use Rattle.clight_check.specs.Soundness.{IsUnsound, HasUnsoundness}
+use Rattle.clight_layout.specs.Layout.{IsLayout}
+use Rattle.clight_layout.specs.Reasons.{IsReason}
+use Rattle.clight_check.specs.Soundness.{IsSound, IsUnsound, HasUnsoundness}
 
 -- tokens, or a reason why there are none
 abbrev pub TokensAreDecided : Type 0
@@ -40,3 +42,12 @@ TextsAreDecided =
 -- each typed program can be given its cost labels
 abbrev pub LabelsAreGiven : Type 0
 LabelsAreGiven = (typed : TypedProgram (Unit {0})) → (p : TypedProgram Label) × IsLabelled typed p
+
+-- a layout, or the first reason against one
+abbrev pub LayoutsAreDecided : Type 0
+LayoutsAreDecided = (typed : TypedProgram (Unit {0})) → ((p : TypedProgram (Unit {0})) × IsLayout typed p) ⊎ ((reason : Reason) × IsReason typed reason)
+
+-- a sound program, or the first reason that the text has
+abbrev pub TextsAreAnswered : Type 0
+TextsAreAnswered =
+    (text : List ℕ) → ((tree : Program) × IsSourceTree text tree × ((p : TypedProgram (Unit {0})) × IsSound tree p)) ⊎ ((reason : Reason) × (HasReason text reason ⊎ HasUnsoundness text reason))

@@ -2,7 +2,7 @@
 //! none out. The functions do nothing: their contracts are the laws, which are proved.
 #![tactic(auto)]
 
-ghost use Rattle.text_answers.specs.Answers.{TokensAreDecided, TreesAreDecided, TypesAreDecided, TextsAreDecided, LabelsAreGiven};
+ghost use Rattle.text_answers.specs.Answers.{TokensAreDecided, TreesAreDecided, TypesAreDecided, TextsAreDecided, LayoutsAreDecided, TextsAreAnswered, LabelsAreGiven};
 
 /// Each text has tokens, or one of the reasons 1 to 4.
 pub fn tokens_are_decided()
@@ -22,6 +22,16 @@ pub fn types_are_decided()
 /// Each text has a typed tree, or one of the reasons 1 to 8.
 pub fn texts_are_decided()
     ensures { TextsAreDecided }
+{}
+
+/// Each typed program has a layout, or one of the reasons 9 to 11.
+pub fn layouts_are_decided()
+    ensures { LayoutsAreDecided }
+{}
+
+/// Each text is that of a sound program, or has one of the reasons 1 to 11.
+pub fn texts_are_answered()
+    ensures { TextsAreAnswered }
 {}
 
 /// Each typed program can be given its cost labels.
