@@ -104,3 +104,24 @@ fn outputs_in_memory_keep_what_is_put(rt: HostRuntime) -> Result<(), Fail> {
     assert_eq!(rt; sound.bytes(), b"ab".as_slice());
     Ok(())
 }
+
+#[test]
+fn short_calls_in_memory_move_no_more(rt: HostRuntime) -> Result<(), Fail> {
+    let alloc = rt.alloc();
+    let mut files = MemoryFiles::new(alloc);
+    files.place("a", b"abcd")?;
+    files.piece(3);
+    let mut piece = [0; 4];
+    assert_eq!(rt; files.read_at("a", 0, &mut piece), Ok(3));
+    assert_eq!(rt; files.read_at("a", 3, &mut piece), Ok(1));
+    assert_eq!(rt; files.append("a", b"efgh"), Ok(3));
+    assert_eq!(rt; files.bytes("a").unwrap_or(b""), b"abcdefg".as_slice());
+    files.piece(1);
+    round_trip(&rt, alloc, &mut files, "b")?;
+    let mut out = MemorySink::new(alloc);
+    out.piece(1);
+    assert_eq!(rt; out.put(b"ab"), Ok(1));
+    put_all(&mut out, b"bc")?;
+    assert_eq!(rt; out.bytes(), b"abc".as_slice());
+    Ok(())
+}

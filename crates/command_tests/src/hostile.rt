@@ -1,7 +1,8 @@
-//! Texts that are cut off, lines that are no records, and calls of the outside that fail, one after another.
+//! Texts that are cut off, lines that are no records, calls of the outside that fail, one after another, and calls that move few bytes.
+ghost use Rattle.std.specs.Prelude.{◌≤◌};
 
 use crate::events::RING;
-use crate::seeing::{EMPTY_HEX, MAP, WRITE_HEX, run_words, see, see_no_file, split};
+use crate::seeing::{EMPTY_HEX, MAP, WRITE_HEX, run_words, see, see_file, see_no_file, split};
 use cerco_base::{MemoryFiles, MemorySink, NoMemory};
 use cerco_command::cerco;
 use std::alloc::Global;
@@ -220,6 +221,62 @@ fn each_failing_call_of_the_output_is_told(rt: HostRuntime) -> Result<(), NoMemo
             told = failing + 1;
         }
         assert_eq!(rt; 1 <= told && told < MOST_CALLS, true, "{words}");
+    }
+    Ok(())
+}
+
+// Runs words over files and an output whose calls move so many bytes at most.
+fn in_pieces(
+    alloc: Global,
+    words: &str,
+    most: usize,
+) -> Result<(u8, MemoryFiles, MemorySink), NoMemory>
+    requires { 1 ≤ most }
+{
+    let mut files = object(alloc, WRITE_HEX)?;
+    files.place("a", RING.as_bytes())?;
+    files.place("n", ANNOTATED)?;
+    files.piece(most);
+    let mut out = MemorySink::new(alloc);
+    out.piece(most);
+    let list = split(alloc, words)?;
+    let status = cerco(alloc, &list, &mut files, &mut out);
+    Ok((status, files, out))
+}
+
+// Sees that words end well with calls that move so many bytes at most, and print and write what they do with calls that move all.
+fn see_pieces(rt: &impl Abort, alloc: Global, words: &str, most: usize) -> Result<(), NoMemory>
+    requires { 1 ≤ most }
+{
+    let (_, whole_files, whole_out) = in_pieces(alloc, words, usize::MAX)?;
+    let (status, files, out) = in_pieces(alloc, words, most)?;
+    assert_eq!(rt; status, 0, "{words}, {most} bytes a call");
+    assert_eq!(rt;
+        out.bytes(),
+        whole_out.bytes(),
+        "{words}, {most} bytes a call"
+    );
+    for name in ["h", "m", "n"] {
+        let text = whole_files.bytes(name).unwrap_or(b"no such file");
+        see_file(rt, &files, name, text);
+    }
+    Ok(())
+}
+
+#[test]
+fn short_calls_make_the_same_outputs(rt: HostRuntime) -> Result<(), NoMemory> {
+    let alloc = rt.alloc();
+    let commands = [
+        "build a h m n",
+        "run h m s 100",
+        "list h",
+        "costs h m",
+        "erase n",
+        "meaning a s 5",
+    ];
+    for words in commands {
+        see_pieces(&rt, alloc, words, 1)?;
+        see_pieces(&rt, alloc, words, 3)?;
     }
     Ok(())
 }

@@ -11,15 +11,17 @@ pub struct Store {
     pub files: BTreeMap<String, Vec<u8>>,
 }
 
-// Copies bytes from an offset on, as many as there are and fit.
-fn copy_from(bytes: &[u8], at: u64, into: &mut [u8]) -> usize
+// Copies bytes from an offset on, as many as there are and fit, but no more than `most`.
+fn copy_from(bytes: &[u8], at: u64, into: &mut [u8], most: usize) -> usize
+    requires { 1 ≤ most }
     ensures bound { result ≤ length into.new }
+    ensures piece { result ≤ most }
     ensures copies { Copies bytes.now at result into.new }
 {
     let Some(rest) = bytes.get(at as usize..) else {
         return 0;
     };
-    let count = rest.len().min(into.len());
+    let count = rest.len().min(into.len()).min(most);
     into[..count].copy_from_slice(&rest[..count]);
     count
 }
@@ -47,14 +49,16 @@ impl Store {
         }
     }
 
-    /// Copies bytes of a file from an offset on, and gives their number; `None` where the name isn't there.
-    pub fn copy(&self, name: &str, at: u64, into: &mut [u8]) -> Option<usize>
+    /// Copies bytes of a file from an offset on, `most` at most, and gives their number; `None` where the name isn't there.
+    pub fn copy(&self, name: &str, at: u64, into: &mut [u8], most: usize) -> Option<usize>
+        requires { 1 ≤ most }
+        ensures piece { IfSome result (λ n. n ≤ most) }
         ensures bound { IfSome result (λ n. n ≤ length into.new) }
         ensures copies { IfSome result (λ n. (bytes : List ℕ) × (file_of self.now name.now ≡ Some bytes) × Copies bytes at n into.new) }
         ensures missing { IfNone result (file_of self.now name.now ≡ None) }
     {
         let bytes = self.bytes(name)?;
-        Some(copy_from(bytes, at, into))
+        Some(copy_from(bytes, at, into, most))
     }
 
     /// Puts a whole file there.

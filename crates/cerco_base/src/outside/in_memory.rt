@@ -1,5 +1,5 @@
 //! Files and an output in memory, whose calls can be told to fail by their numbers.
-ghost use Rattle.std.specs.Prelude.{◌≡◌, ◌++◌, ◌∷◌, option_map, OnOk, OnErr, None, List, ℕ, [], string_bytes};
+ghost use Rattle.std.specs.Prelude.{◌≡◌, ◌≤◌, ◌++◌, ◌∷◌, max, option_map, OnOk, OnErr, IfOk, None, List, ℕ, [], string_bytes};
 ghost use Rattle.cerco_base.specs.Outside.IoFaults.{HasCause};
 ghost use Rattle.cerco_base.specs.Outside.IoCalls.{ReadsAt, Creates, AppendsSome, PutsSome};
 ghost use Rattle.cerco_base.specs.declared.outside.faults.IoFault.TheVariants as Io;
@@ -19,6 +19,8 @@ pub struct MemoryFiles {
     faults: u64,
     last_fault: String,
     failing: Vec<u64>,
+    // how many bytes a call takes at most; 0 is taken as 1
+    most: usize,
 }
 
 impl MemoryFiles {
@@ -38,6 +40,7 @@ impl MemoryFiles {
             faults: 0,
             last_fault: String::new(alloc),
             failing: Vec::new(alloc),
+            most: usize::MAX,
         }
     }
 
@@ -71,12 +74,21 @@ impl MemoryFiles {
         Ok(())
     }
 
+    /// From now on each call reads or adds so many bytes at most, 1 at least. Nothing else has changed.
+    pub fn piece(&mut self, most: usize)
+        requires { 1 ≤ most }
+        ensures { self.new ≡ record self.old { most = most } }
+    {
+        self.most = most;
+    }
+
     // One more call. Where it is due to fail, the fault is counted and named.
     fn begin(&mut self, name: &str) -> Result<(), IoFault>
         ensures store { self.new.store ≡ self.old.store }
         ensures cause { HasCause Io.Failed name.now (string_bytes self.new.last_fault) self.old.faults self.new.faults result }
         ensures quiet { OnOk result (self.new.faults ≡ self.old.faults) }
         ensures counts { CountsFilesCall self.old self.new }
+        ensures most { self.new.most ≡ self.old.most }
         ensures due { FailsWhereDue Io.Failed Io.OutOfMemory (is_due self.old.calls self.old.failing.items) result }
     {
         let number = self.calls;
@@ -99,13 +111,14 @@ impl Files for MemoryFiles {
         ensures reads { ReadsAt (memory_files_state self.old) (memory_files_state self.new) name.now at into.new result }
         ensures counts { CountsFilesCall self.old self.new }
         ensures due { FailsWhereDue Read.Failed Read.OutOfMemory (is_due self.old.calls self.old.failing.items) result }
+        ensures piece { IfOk result (λ n. n ≤ max self.old.most 1) }
     {
         match self.begin(name) {
             Ok(()) => {}
             Err(IoFault::Failed) => return Err(ReadFault::Failed),
             Err(IoFault::OutOfMemory) => return Err(ReadFault::OutOfMemory),
         }
-        match self.store.copy(name, at, into) {
+        match self.store.copy(name, at, into, self.most.max(1)) {
             Some(count) => Ok(count),
             None => Err(ReadFault::Missing),
         }
@@ -125,10 +138,12 @@ impl Files for MemoryFiles {
         ensures appends { AppendsSome (memory_files_state self.old) (memory_files_state self.new) name.now bytes.now result }
         ensures counts { CountsFilesCall self.old self.new }
         ensures due { FailsWhereDue Io.Failed Io.OutOfMemory (is_due self.old.calls self.old.failing.items) result }
+        ensures piece { IfOk result (λ n. n ≤ max self.old.most 1) }
     {
         self.begin(name)?;
-        self.store.add(name, bytes)?;
-        Ok(bytes.len())
+        let count = bytes.len().min(self.most.max(1));
+        self.store.add(name, &bytes[..count])?;
+        Ok(count)
     }
 }
 
@@ -139,6 +154,8 @@ pub struct MemorySink {
     calls: u64,
     faults: u64,
     failing: Vec<u64>,
+    // how many bytes a call takes at most; 0 is taken as 1
+    most: usize,
 }
 
 impl MemorySink {
@@ -156,6 +173,7 @@ impl MemorySink {
             calls: 0,
             faults: 0,
             failing: Vec::new(alloc),
+            most: usize::MAX,
         }
     }
 
@@ -176,6 +194,14 @@ impl MemorySink {
         self.failing.push(call)?;
         Ok(())
     }
+
+    /// From now on each call takes so many bytes at most, 1 at least. Nothing else has changed.
+    pub fn piece(&mut self, most: usize)
+        requires { 1 ≤ most }
+        ensures { self.new ≡ record self.old { most = most } }
+    {
+        self.most = most;
+    }
 }
 
 impl Sink for MemorySink {
@@ -187,6 +213,7 @@ impl Sink for MemorySink {
         ensures puts { PutsSome (memory_sink_state self.old) (memory_sink_state self.new) bytes.now result }
         ensures counts { CountsSinkCall self.old self.new }
         ensures due { FailsWhereDue Io.Failed Io.OutOfMemory (is_due self.old.calls self.old.failing.items) result }
+        ensures piece { IfOk result (λ n. n ≤ max self.old.most 1) }
     {
         let number = self.calls;
         self.calls = self.calls.saturating_add(1);
@@ -194,7 +221,8 @@ impl Sink for MemorySink {
             self.faults = self.faults.saturating_add(1);
             return Err(IoFault::Failed);
         }
-        self.bytes.extend_from_slice(bytes)?;
-        Ok(bytes.len())
+        let count = bytes.len().min(self.most.max(1));
+        self.bytes.extend_from_slice(&bytes[..count])?;
+        Ok(count)
     }
 }

@@ -49,7 +49,7 @@ impl Files for SoundFiles {
     ghost state = { sound_files_state };
 
     fn read_at(&mut self, name: &str, at: u64, into: &mut [u8]) -> Result<usize, ReadFault> {
-        match self.store.copy(name, at, into) {
+        match self.store.copy(name, at, into, usize::MAX) {
             Some(count) => Ok(count),
             None => Err(ReadFault::Missing),
         }
