@@ -3,12 +3,11 @@ use Rattle.std.proofs.Common.{◌≡◌, ◌≢◌, ℕ, ◌+◌, ◌<◌, ◌�
 use Rattle.std.specs.Prelude.{Contains, All}
 use Rattle.std.specs.List.{sum_by}
 use Rattle.std.proofs.lemmas.Bool.{cases_lt}
-use Rattle.std.proofs.lemmas.List.{map-append, get_or_past, get_or_default, get_or_read, get_or-set_same, get_or-set_other, length-set, get_or_append_left, length-map}
-use Rattle.std.proofs.Math.Seq.{get_or-append_seam}
+use Rattle.std.proofs.lemmas.List.{get_or_past, get_or_default, get_or_read, get_or-set_same, get_or-set_other, length-set}
 use Rattle.std.proofs.lemmas.List.Elements.{Contains-append_left, Contains-push, Contains-push_cases}
 use Rattle.std.proofs.lemmas.List.Sums.{sum_by-set}
 use Rattle.cerco_base.specs.CallOrder.{Called, functions_of, callers_at}
-use Rattle.cerco_base.proofs.CallOrders.{order-push}
+use Rattle.cerco_base.proofs.CallOrders.{functions-push, map_at, map_at_end, order-push}
 use Rattle.call_graph.specs.CallPaths.{AreCalledFrom}
 use Rattle.call_graph.specs.Code.Nodes.{CallsTo}
 use Rattle.call_graph.specs.Code.Walks.{list_at, mark_of, CallsFirst, IsOpenPath, IsWalk, steps_of}
@@ -89,26 +88,15 @@ opened callers marks known stack order f w new h first =
       path = (mark_same marks f Open h, first, not_there, path_still callers marks stack f Open w.path not_there);
     }
 
--- the list of functions, and the callers at each place, when one more is put into the order
-functions-push : (order : List Called) (f : ℕ) (callers : List ℕ) → functions_of (order ++ record { function = f; callers = callers } ∷ []) ≡ functions_of order ++ f ∷ []
-functions-push order f callers = map-append (λ (c : Called). c.function) order (record { function = f; callers = callers } ∷ [])
-
-at_front : {X : Type 0} (tell : Called → X) (order : List Called) (c : Called) (i : ℕ) (d : X) → i < length order → get_or (map tell (order ++ c ∷ [])) i d ≡ get_or (map tell order) i d
-at_front tell order c i d h =
-    let within : i < length (map tell order) = rw length-map h in
-    rw map-append (get_or_append_left (map tell order) (tell c ∷ []) d i within)
-
-at_end : {X : Type 0} (tell : Called → X) (order : List Called) (c : Called) (d : X) → get_or (map tell (order ++ c ∷ [])) (length order) d ≡ tell c
-at_end tell order c d = rw (map-append, ← length-map order tell) (get_or-append_seam (map tell order) (tell c) [] d)
-
+-- the callers at each place, when one more is put into the order
 lists-push : (callers : List (List ℕ)) (order : List Called) (f : ℕ) → ((i : ℕ) → i < length order → callers_at order i ≡ list_at callers (get_or (functions_of order) i 0)) → (i : ℕ) → i < length (order ++ record { function = f; callers = list_at callers f } ∷ []) → callers_at (order ++ record { function = f; callers = list_at callers f } ∷ []) i ≡ list_at callers (get_or (functions_of (order ++ record { function = f; callers = list_at callers f } ∷ [])) i 0)
 lists-push callers order f lists i h =
     let c : Called = record { function = f; callers = list_at callers f } in
     let at : i < length order + 1 = let e = length-append order (c ∷ []) in omega arith in
     let P : ℕ → Type 0 = λ j. callers_at (order ++ c ∷ []) j ≡ list_at callers (get_or (functions_of (order ++ c ∷ [])) j 0) in
     below_more P (length order)
-    (λ j k. at_front (λ (x : Called). x.callers) order c j [] k ∙ (lists j k ∙ ap (list_at callers) (sym (at_front (λ (x : Called). x.function) order c j 0 k))))
-    (at_end (λ (x : Called). x.callers) order c [] ∙ ap (list_at callers) (sym (at_end (λ (x : Called). x.function) order c 0)))
+    (λ j k. map_at (λ (x : Called). x.callers) order c j [] k ∙ (lists j k ∙ ap (list_at callers) (sym (map_at (λ (x : Called). x.function) order c j 0 k))))
+    (map_at_end (λ (x : Called). x.callers) order c [] ∙ ap (list_at callers) (sym (map_at_end (λ (x : Called). x.function) order c 0)))
     i at
 
 -- the callers of the topmost function, once all are known, are in the order
@@ -130,13 +118,13 @@ placed callers marks known below order f w all =
       marks_length = length-set marks f Placed ∙ w.marks_length;
       known_length = w.known_length;
       placed = λ g e.
-          subst (λ (fs : List ℕ). Contains fs g) (sym (functions-push order f (list_at callers f)))
+          subst (λ (fs : List ℕ). Contains fs g) (sym (functions-push order (record { function = f; callers = list_at callers f })))
           (elim (same_or_not f g) [
             | inl same ↦ subst (Contains (functions_of order ++ f ∷ [])) same (Contains-push (functions_of order) f)
             | inr other ↦ Contains-append_left (functions_of order) (f ∷ []) g (w.placed g (sym (mark_other marks f g Placed (λ x. other (sym x))) ∙ e))
           ]);
       marked = λ g d.
-          elim (Contains-push_cases (functions_of order) f g (subst (λ (fs : List ℕ). Contains fs g) (functions-push order f (list_at callers f)) d)) [
+          elim (Contains-push_cases (functions_of order) f g (subst (λ (fs : List ℕ). Contains fs g) (functions-push order (record { function = f; callers = list_at callers f })) d)) [
             | inl before ↦ still g (w.marked g before)
             | inr same ↦ ap (mark_of (set marks f Placed)) (sym same) ∙ mark_same marks f Placed h
           ];

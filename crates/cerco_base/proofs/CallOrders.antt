@@ -14,13 +14,16 @@ each_place P l c below last i h =
     below_more P (length l) below last i at
 
 -- a list of what is told of each function, one longer: the place before the end, and the end
-map_at : {X : Type 0} (f : Called → X) (l : List Called) (c : Called) (i : ℕ) (d : X) → i < length l → get_or (map f (l ++ c ∷ [])) i d ≡ get_or (map f l) i d
+pub map_at : {X : Type 0} (f : Called → X) (l : List Called) (c : Called) (i : ℕ) (d : X) → i < length l → get_or (map f (l ++ c ∷ [])) i d ≡ get_or (map f l) i d
 map_at f l c i d h =
     let within : i < length (map f l) = rw length-map h in
     rw map-append (get_or_append_left (map f l) (f c ∷ []) d i within)
 
-map_at_end : {X : Type 0} (f : Called → X) (l : List Called) (c : Called) (d : X) → get_or (map f (l ++ c ∷ [])) (length l) d ≡ f c
+pub map_at_end : {X : Type 0} (f : Called → X) (l : List Called) (c : Called) (d : X) → get_or (map f (l ++ c ∷ [])) (length l) d ≡ f c
 map_at_end f l c d = rw (map-append, ← length-map l f) (get_or-append_seam (map f l) (f c) [] d)
+
+pub functions-push : (l : List Called) (c : Called) → functions_of (l ++ c ∷ []) ≡ functions_of l ++ c.function ∷ []
+functions-push l c = map-append (λ (d : Called). d.function) l (c ∷ [])
 
 map_front : {X : Type 0} (f : Called → X) (l : List Called) (c : Called) (i : ℕ) → i ≤ length l → take i (map f (l ++ c ∷ [])) ≡ take i (map f l)
 map_front f l c i h =

@@ -4,14 +4,13 @@ use Rattle.std.specs.Prelude.{Contains, All, ◌↔◌}
 use Rattle.std.specs.List.{AllPairs}
 use Rattle.std.proofs.lemmas.Bool.{cases_lt, eqb-true}
 use Rattle.std.proofs.lemmas.Bool.Decides.{Decides-eqb}
-use Rattle.std.proofs.lemmas.List.{append-nil, map-append, length-map, length-replicate, get_or-replicate, get_or_past, get_or_default, get_or_append_left}
-use Rattle.std.proofs.Math.Seq.{get_or-append_seam}
+use Rattle.std.proofs.lemmas.List.{append-nil, length-replicate, get_or-replicate, get_or_past, get_or_default}
 use Rattle.std.proofs.lemmas.List.Elements.{Contains-append_left, Contains-push, Contains-push_cases}
 use Rattle.std.proofs.lemmas.Map.Steps.{length-le_from_distinct_below}
 use Rattle.std.proofs.lemmas.Map.Made.{IsDistinct-from_AllPairs}
 use Rattle.std.proofs.lemmas.Map.Views.{Contains-from_any}
 use Rattle.cerco_base.specs.CallOrder.{Called, functions_of, callers_at, IsCallOrder}
-use Rattle.cerco_base.proofs.CallOrders.{order-push}
+use Rattle.cerco_base.proofs.CallOrders.{functions-push, map_at, map_at_end, order-push}
 use Rattle.call_graph.specs.CallPaths.{Calls, AreCalledFrom, IsOnCycle, IsFirstOnCycle, IsOrderOf}
 use Rattle.call_graph.specs.Code.Searches.{IsSeen, IsSearch, Sees, unseen}
 use Rattle.call_graph.specs.Code.Walks.{list_at}
@@ -268,17 +267,6 @@ record IsReady (callees : List (List ℕ)) (order : List Called) (f : ℕ) : Typ
   new : Contains (functions_of order) f → ⊥
   known : (c : ℕ) → Calls callees c f → Contains (functions_of order) c
 
-functions-push : (order : List Called) (c : Called) → functions_of (order ++ c ∷ []) ≡ functions_of order ++ c.function ∷ []
-functions-push order c = map-append (λ (d : Called). d.function) order (c ∷ [])
-
-at_front : {X : Type 0} (tell : Called → X) (order : List Called) (c : Called) (i : ℕ) (d : X) → i < length order → get_or (map tell (order ++ c ∷ [])) i d ≡ get_or (map tell order) i d
-at_front tell order c i d h =
-    let within : i < length (map tell order) = rw length-map h in
-    rw map-append (get_or_append_left (map tell order) (tell c ∷ []) d i within)
-
-at_end : {X : Type 0} (tell : Called → X) (order : List Called) (c : Called) (d : X) → get_or (map tell (order ++ c ∷ [])) (length order) d ≡ tell c
-at_end tell order c d = rw (map-append, ← length-map order tell) (get_or-append_seam (map tell order) (tell c) [] d)
-
 begun_more : (callees : List (List ℕ)) (order : List Called) (f : ℕ) → IsBegun callees order → IsReady callees order f → IsBegun callees (order ++ record { function = f; callers = (callers callees f).list } ∷ [])
 begun_more callees order f is ready =
     let own = callers callees f in
@@ -295,10 +283,10 @@ begun_more callees order f is ready =
       callers = λ i h.
           let lt : i < length order + 1 = let e = length-append order (c ∷ []) in omega arith in
           below_more P (length order)
-          (λ j k. subst (λ (xs : List ℕ). (g : ℕ) → Contains xs g ↔ Calls callees g (get_or (functions_of (order ++ c ∷ [])) j 0)) (sym (at_front (λ (d : Called). d.callers) order c j [] k))
-          (subst (λ (x : ℕ). (g : ℕ) → Contains (callers_at order j) g ↔ Calls callees g x) (sym (at_front (λ (d : Called). d.function) order c j 0 k)) (is.callers j k)))
-          (subst (λ (xs : List ℕ). (g : ℕ) → Contains xs g ↔ Calls callees g (get_or (functions_of (order ++ c ∷ [])) (length order) 0)) (sym (at_end (λ (d : Called). d.callers) order c []))
-          (subst (λ (x : ℕ). (g : ℕ) → Contains own.list g ↔ Calls callees g x) (sym (at_end (λ (d : Called). d.function) order c 0)) own.are))
+          (λ j k. subst (λ (xs : List ℕ). (g : ℕ) → Contains xs g ↔ Calls callees g (get_or (functions_of (order ++ c ∷ [])) j 0)) (sym (map_at (λ (d : Called). d.callers) order c j [] k))
+          (subst (λ (x : ℕ). (g : ℕ) → Contains (callers_at order j) g ↔ Calls callees g x) (sym (map_at (λ (d : Called). d.function) order c j 0 k)) (is.callers j k)))
+          (subst (λ (xs : List ℕ). (g : ℕ) → Contains xs g ↔ Calls callees g (get_or (functions_of (order ++ c ∷ [])) (length order) 0)) (sym (map_at_end (λ (d : Called). d.callers) order c []))
+          (subst (λ (x : ℕ). (g : ℕ) → Contains own.list g ↔ Calls callees g x) (sym (map_at_end (λ (d : Called). d.function) order c 0)) own.are))
           i lt;
     }
 
