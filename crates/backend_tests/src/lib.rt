@@ -5,11 +5,15 @@
 #[cfg(test)]
 mod convention;
 #[cfg(test)]
+mod dead_operations;
+#[cfg(test)]
 mod frames;
 #[cfg(test)]
 mod jumps;
 #[cfg(test)]
 mod lists;
+#[cfg(test)]
+mod live_sets;
 #[cfg(test)]
 mod readers;
 pub mod setters;

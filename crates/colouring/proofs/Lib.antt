@@ -1,0 +1,9 @@
+pub mod Members
+pub mod Given
+pub mod GreedyPass
+pub mod Visits
+pub mod Adding
+pub mod NodePairs
+pub mod Marked
+pub mod GraphRows
+pub mod Made

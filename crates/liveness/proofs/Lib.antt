@@ -1,0 +1,13 @@
+pub mod Lists
+pub mod Turned
+pub mod Reaching
+pub mod Numbering
+pub mod ExitLists
+pub mod LivePoints
+pub mod Nodes
+pub mod LeadLists
+pub mod WrittenNodes
+pub mod LiveRows
+pub mod Occurring
+pub mod FlowTables
+pub mod LiveOf

@@ -1,0 +1,3 @@
+pub mod Pruning
+pub mod Laws
+pub mod Searches
