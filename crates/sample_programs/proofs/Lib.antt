@@ -1,0 +1,17 @@
+mod Families
+mod Decimals
+mod Pieces
+mod Trees
+mod Numbering
+mod Typing
+mod Labels
+mod CallPaths
+mod Bounds
+mod SourceTexts
+mod Spellings
+mod Sources
+mod Naming
+mod Programs
+mod Rooms
+mod TokenNames
+mod Whole
